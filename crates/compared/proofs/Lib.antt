@@ -1,2 +1,6 @@
 pub mod Paired
+pub mod ReadCalls
+pub mod KeyLists
+pub mod KeyCalls
+pub mod Comparisons
 pub mod Represented

@@ -105,7 +105,7 @@ same_represented old new world same marked meta represented =
       made = λ repo. ap (λ o. unwrap_or o (pos 0)) (found_same repo_fields (λ f. f.made) (λ f. same_bytes f.name repo) old.repos new.repos same.repos) ∙ r.made repo;
       used = λ repo. ap (λ o. unwrap_or o (pos 0)) (found_same repo_fields (λ f. f.used) (λ f. same_bytes f.name repo) old.repos new.repos same.repos) ∙ r.used repo;
       tokens = subst (λ l. IsPermutation l (map token_row world.tokens)) (read_same token_fields token_from old.tokens new.tokens same.tokens) r.tokens;
-      objects = subst (λ cs. RepresentObjects new.uploads cs world.objects) (sym same.chunks)
+      objects = subst (λ cs. RepresentObjects new.uploads cs world.objects) (sym same.chunks.kept)
           (subst (λ us. RepresentObjects us (settled old).chunks world.objects) (sym same.uploads) (only_complete old.uploads old.chunks marked world.objects r.objects));
       retired = subst (λ l. IsPermutation l (map retired_row world.retired)) (read_same retired_fields retired_from old.retired new.retired same.retired) r.retired;
       unretired = subst (AreUnretired world) (sym same.uploads) (all-filter _ is_complete old.uploads r.unretired);

@@ -11,6 +11,10 @@ pub record ArePaired {X : Type 0} (R : X → X → Type 0) (xs ys : List X) : Ty
   pub lengths : length xs ≡ length ys
   pub each : (i : ℕ) (d e : X) → i < length xs → R (slice_index_or xs i d) (slice_index_or ys i e)
 
+-- while the store is open, it shows these tables
+abbrev pub Shows : {S : Type 0} → Ghosts S → S → Tables → Type 0
+Shows g s t = IsOpen g s → shown g s ≡ t
+
 module _ {S T : Type 0} (g : Ghosts S) (h : Ghosts T) where
   -- two stores were only read: they show what they showed, and a stop leaves no more than before
   pub record ReadsBoth (old old_end : S) (new new_end : T) : Type 0 where

@@ -1,7 +1,8 @@
 //! The keys of chunks, in the order of uploads and numbers.
 
-ghost use Rattle.std.specs.Prelude.{◌≡◌, map, find, is_some, IsPermutation, IsSorted};
+ghost use Rattle.std.specs.Prelude.{◌≡◌, map, IsPermutation, IsSorted};
 ghost use Rattle.std.specs.Bool.{Decides};
+ghost use Rattle.std.specs.List.{list_any};
 ghost use Rattle.std.specs.Ordering.{int_eq, is_lt};
 ghost use Rattle.tables.specs.Staging.{read_upload};
 ghost use Rattle.store.specs.Normal.{settled};
@@ -15,15 +16,15 @@ use tables::{StoreFault, UploadRow};
 
 /// Whether the chunk is of one of these uploads.
 fn is_of_any(key: &ChunkKey, uploads: &[UploadRow]) -> bool
-    ensures { result ≡ is_some (find (λ u. int_eq (read_upload u).id (read_key key.now).upload) uploads.now) }
+    ensures { result ≡ list_any (λ u. int_eq (read_upload u).id (read_key key.now).upload) uploads.now }
 {
     uploads.iter().any(|upload| upload.id.number() == key.upload.number())
 }
 
 /// Puts the keys into the order of uploads and numbers.
-fn sort(keys: &mut [ChunkKey])
-    ensures all { IsPermutation keys.old keys.new }
-    ensures ordered { IsSorted key_cmp (map read_key keys.new) }
+fn sort(keys: &mut Vec<ChunkKey>)
+    ensures all { IsPermutation keys.old.items keys.new.items }
+    ensures ordered { IsSorted key_cmp (map read_key keys.new.items) }
 {
     keys.sort_unstable_by_key(|key| (key.upload.number(), key.n));
 }
@@ -39,7 +40,7 @@ fn is_before(a: &ChunkKey, b: &ChunkKey) -> bool
 pub(crate) fn rise(keys: &[ChunkKey]) -> bool
     ensures { Decides result (KeysRise (map read_key keys.now)) }
 {
-    keys.is_sorted_by(is_before)
+    keys.is_sorted_by(|a, b| is_before(a, b))
 }
 
 /// Returns the keys of all chunks.

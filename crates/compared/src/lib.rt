@@ -1,6 +1,7 @@
 //! The comparison of two stores.
 #![tactic(auto)]
 
+mod chunks;
 mod keys;
 mod laws;
 mod listed;
