@@ -1,14 +1,16 @@
 -- Two stores that are only read, and what is said of the tables of both.
-use Rattle.std.proofs.Common.{◌≡◌, ◌∙◌, ◌⊎◌, inl, inr, ℕ, ◌+◌, ◌<◌, suc, zero, pos, Bool, true, false, not, List, [], ◌∷◌, map, filter, find, length, slice_index_or, Option, option_map, Result, Ok, Err, IfOk, IsPermutation, ◌≤◌, refl, sym, ap, ap₂, subst, arith, add-one}
+use Rattle.std.proofs.Common.{◌≡◌, ◌∙◌, ◌⊎◌, inl, inr, ℕ, ◌+◌, ◌<◌, suc, zero, pos, Bool, true, false, not, List, [], ◌∷◌, map, filter, find, length, slice_index_or, Option, option_map, Result, Ok, Err, IfOk, Vec, Global, IsPermutation, ◌≤◌, refl, sym, ap, ap₂, subst, arith, add-one}
 use Rattle.std.proofs.Math.Logic.{⊎_elim}
 use Rattle.std.specs.Bool.{Decides}
+use Rattle.std.specs.Ordering.{int_eq}
+use Rattle.std.proofs.lemmas.Bool.Decides.{Decides-like}
 use Rattle.std.specs.List.{AllByRecursion}
 use Rattle.std.proofs.lemmas.Bool.{cases_eq, true≢false}
 use Rattle.std.proofs.lemmas.List.{get_or_default}
 use Rattle.std.proofs.lemmas.List.Elements.{All-from_recursion, recursion_from_All}
-use Rattle.sqlite_keyed.proofs.ListLemmas.{all_map, all_unmap}
-use Rattle.tables.specs.Rows.{Chunk, Tables}
-use Rattle.tables.specs.Statements.{is_chunk}
+use Rattle.sqlite_keyed.proofs.ListLemmas.{all_map, all_unmap, filter-map, filter_same, map_back}
+use Rattle.tables.specs.Rows.{Chunk, Tables, Upload}
+use Rattle.tables.specs.Statements.{is_chunk, is_complete}
 use Rattle.tables.specs.declared.fault.StoreFault.{StoreFault}
 use Rattle.store.specs.declared.content.ChunkContent.{ChunkContent}
 use Rattle.store.specs.declared.state.State.{Ghosts}
@@ -17,7 +19,8 @@ use Rattle.store.specs.Normal.{arranged, is_of_staged, settled}
 use Rattle.store.specs.Shown.{HasTables, IsHonest, IsOpen, Moves, AddsNothing, Reads, shown}
 use Rattle.store.proofs.Moved.{moves_none, moves_then, nothing_none, nothing_then}
 use Rattle.compared.specs.declared.listed.ChunkKey.{ChunkKey}
-use Rattle.compared.specs.Listing.{KeyFields, key_fields, read_key}
+use Rattle.compared.specs.declared.listed.MarkedUpload.{MarkedUpload}
+use Rattle.compared.specs.Listing.{AreMarkedOf, KeyFields, MarkedFields, key_fields, mark_of, marked_fields, read_key, read_marked}
 use Rattle.compared.specs.Keys.{AreKeysInOrder, HasSameBytes, KeysRise, bytes_at}
 use Rattle.compared.specs.Same.{HaveSameChunks}
 use Rattle.compared.specs.Comparing.{ArePaired, Compares, ReadsBoth, Shows}
@@ -142,18 +145,126 @@ module _ {S T : Type 0} (g : Ghosts S) (h : Ghosts T) where
 
   -- ---- comparisons
 
-  -- a call failed
-  pub fails_both : (a b : S) (u v : T) (e : StoreFault) (P : Tables → Tables → Type 0) → ReadsBoth g h a b u v → Compares g h a b u v (Err e) P
-  fails_both a b u v e P both = record { both = both; answers = λ _ _ _ _. tt }
+  -- the result is the same for another claim
+  pub compares_like : (a b : S) (u v : T) (r : Result Bool StoreFault) (P Q : Tables → Tables → Type 0) → ((s t : Tables) → P s t → Q s t) → ((s t : Tables) → Q s t → P s t)
+      → Compares g h a b u v r P → Compares g h a b u v r Q
+  compares_like a b u v (Err e) P Q f back p = record { both = p.both; answers = λ _ _ _ _. tt }
+  compares_like a b u v (Ok same) P Q f back p = record {
+    both = p.both;
+    answers = λ honest honest₂ has has₂. let is = p.answers honest honest₂ has has₂ in (is.0, is.1, Decides-like same (f _ _) (back _ _) is.2);
+  }
+
+  -- what fails says nothing
+  pub compares_err : (a b : S) (u v : T) (e : StoreFault) (P Q : Tables → Tables → Type 0) → Compares g h a b u v (Err e) P → Compares g h a b u v (Err e) Q
+  compares_err a b u v e P Q p = record { both = p.both; answers = λ _ _ _ _. tt }
+
+  -- what is not so is not so with more
+  pub compares_not : (a b : S) (u v : T) (P Q : Tables → Tables → Type 0) → ((s t : Tables) → Q s t → P s t) → Compares g h a b u v (Ok false) P → Compares g h a b u v (Ok false) Q
+  compares_not a b u v P Q weaker p = record {
+    both = p.both;
+    answers = λ honest honest₂ has has₂.
+        let is = p.answers honest honest₂ has has₂ in
+        (is.0, is.1, (λ e. absurd (true≢false (sym e)), λ q. is.2.1 (weaker _ _ q)));
+  }
+
+  -- one comparison after another that found nothing
+  pub compares_then : (a b c : S) (u v w : T) (r : Result Bool StoreFault) (P Q : Tables → Tables → Type 0)
+      → Compares g h a b u v (Ok true) P → Compares g h b c v w r Q → Compares g h a c u w r (λ s t. P s t × Q s t)
+  compares_then a b c u v w (Err e) P Q p q = record { both = both_then a b c u v w p.both q.both; answers = λ _ _ _ _. tt }
+  compares_then a b c u v w (Ok same) P Q p q = record {
+    both = both_then a b c u v w p.both q.both;
+    answers = λ honest honest₂ has has₂.
+        let before = q.both.old_same.was_honest honest in
+        let before₂ = q.both.new_same.was_honest honest₂ in
+        let first = p.answers before before₂ has has₂ in
+        let second = q.answers honest honest₂ (p.both.old_same.ready has) (p.both.new_same.ready has₂) in
+        let is = subst (λ s. Decides same (Q s (shown h u))) (p.both.old_same.shows before has second.0)
+            (subst (λ t. Decides same (Q (shown g b) t)) (p.both.new_same.shows before₂ has₂ second.1) second.2) in
+        (first.0, first.1, Decides-like same (λ q. (first.2.0 refl, q)) (λ both. both.1) is);
+  }
 
   -- one call on each store
   pub compared : {X Y : Type 0} (a b : S) (u v : T) (x : X) (y : Y) (P : Tables → X → Type 0) (Q : Tables → Y → Type 0) (same : Bool) (R : Tables → Tables → Type 0)
-      → (IsHonest g b → IsHonest h v → HasTables g a → HasTables h u → P (shown g a) x → Q (shown h u) y → Decides same (R (shown g a) (shown h u)))
-      → Reads g a b (Ok x) P → Reads h u v (Ok y) Q → Compares g h a b u v (Ok same) R
+      → ((s t : Tables) → P s x → Q t y → Decides same (R s t)) → Reads g a b (Ok x) P → Reads h u v (Ok y) Q → Compares g h a b u v (Ok same) R
   compared a b u v x y P Q same R f p q = record {
     both = both_read a b u v (Ok x) (Ok y) P Q p q;
     answers = λ honest honest₂ has has₂.
         let one = p.answers honest has in
         let two = q.answers honest₂ has₂ in
-        (one.0, two.0, f honest honest₂ has has₂ one.1 two.1);
+        (one.0, two.0, f _ _ one.1 two.1);
   }
+
+  -- the keys of both were read, in order
+  module _ (a b : S) (u v : T) (ours theirs : Vec ChunkKey Global) (p : Reads g a b (Ok ours) (λ t keys. AreKeysInOrder keys.items (settled t).chunks))
+      (q : Reads h u v (Ok theirs) (λ t keys. AreKeysInOrder keys.items t.chunks)) where
+    pub chunks_differ : ((KeysRise (map read_key ours.items) × ArePaired (λ a b. read_key a ≡ read_key b) ours.items theirs.items) → ⊥) → Compares g h a b u v (Ok false) HaveSameChunks
+    chunks_differ other = record {
+      both = both_read a b u v (Ok ours) (Ok theirs) _ _ p q;
+      answers = λ honest honest₂ has has₂.
+          let one = p.answers honest has in
+          let two = q.answers honest₂ has₂ in
+          let sorted = ap (λ (t : Tables). t.chunks) (has.ordered (p.same.was_honest honest) one.0) in
+          let sorted₂ = ap (λ (t : Tables). t.chunks) (has₂.ordered (q.same.was_honest honest₂) two.0) in (
+            one.0,
+            two.0,
+            (λ e. absurd (true≢false (sym e)), λ same.
+            absurd (other (keys_rise (shown g a) (shown h u) ours.items theirs.items sorted sorted₂ one.1 two.1 same,
+            keys_paired (shown g a) (shown h u) ours.items theirs.items sorted sorted₂ one.1 two.1 same))),
+          );
+    }
+
+    pub chunks_compared : (c : S) (w : T) (r : Result Bool StoreFault) → KeysRise (map read_key ours.items) → ArePaired (λ a b. read_key a ≡ read_key b) ours.items theirs.items → ReadsBoth g h b c v w
+        → IfOk r (λ same. IsHonest g c → IsHonest h w → HasTables g b → HasTables h v → (s t : Tables) → Shows g b s → Shows h v t → Decides same (AllByRecursion (HasSameBytes s t) (map read_key ours.items)))
+        → Compares g h a c u w r HaveSameChunks
+    chunks_compared c w (Err e) up paired both bytes = record { both = both_then a b c u v w (both_read a b u v (Ok ours) (Ok theirs) _ _ p q) both; answers = λ _ _ _ _. tt }
+    chunks_compared c w (Ok same) up paired both bytes = record {
+      both = both_then a b c u v w (both_read a b u v (Ok ours) (Ok theirs) _ _ p q) both;
+      answers = λ honest honest₂ has has₂.
+          let before = both.old_same.was_honest honest in
+          let before₂ = both.new_same.was_honest honest₂ in
+          let one = p.answers before has in
+          let two = q.answers before₂ has₂ in
+          let sorted = ap (λ (t : Tables). t.chunks) (has.ordered (p.same.was_honest before) one.0) in
+          let sorted₂ = ap (λ (t : Tables). t.chunks) (has₂.ordered (q.same.was_honest before₂) two.0) in
+          let is = bytes honest honest₂ (p.same.ready has) (q.same.ready has₂) (shown g a) (shown h u) (p.same.shows before has) (q.same.shows before₂ has₂) in (
+            one.0,
+            two.0,
+            Decides-like same (same_chunks (shown g a) (shown h u) ours.items theirs.items sorted sorted₂ one.1 two.1 up paired)
+                (keys_bytes (shown g a) (shown h u) ours.items theirs.items sorted sorted₂ one.1 two.1) is,
+          );
+    }
+
+-- ---- rows
+
+-- rows are the same exactly if what was read of them is
+pub rows_decided : {X F : Type 0} (read : X → F) (same : Bool) (xs ys ours theirs : List X) (ls ms : List F) → xs ≡ ours → ys ≡ theirs → map read ours ≡ ls → map read theirs ≡ ms
+    → Decides same (ArePaired (λ a b. read a ≡ read b) xs ys) → Decides same (ms ≡ ls)
+rows_decided read same xs ys ours theirs ls ms is_x is_y p q d =
+    let one = ap (map read) is_x ∙ p in
+    let two = ap (map read) is_y ∙ q in
+    Decides-like same (λ paired. sym two ∙ sym (maps_from_paired read xs ys paired) ∙ one) (λ e. paired_from_maps read xs ys (one ∙ sym e ∙ sym two)) d
+
+upload_from : MarkedFields → Upload
+upload_from f = record { id = f.upload.id; repo = f.upload.repo; oid = f.upload.oid; size = f.upload.size; done = f.done }
+
+same_uploads : (us ws : List Upload) → map marked_fields us ≡ map marked_fields ws → us ≡ ws
+unfolding upload_from
+same_uploads us ws e = sym (map_back marked_fields upload_from (λ _. refl) us) ∙ ap (map upload_from) e ∙ map_back marked_fields upload_from (λ _. refl) ws
+
+marked : (b : Bool) → int_eq (mark_of b) (pos 1) ≡ b
+marked true = refl
+marked false = refl
+
+complete_read : (rows : List MarkedUpload) (us : List Upload) → AreMarkedOf rows us → map read_marked (filter (λ m. m.is_complete) rows) ≡ map marked_fields (filter is_complete us)
+complete_read rows us is =
+    ap (map read_marked) (filter_same (λ (m : MarkedUpload). m.is_complete) (λ m. int_eq (mark_of m.is_complete) (pos 1)) (λ m. sym (marked m.is_complete)) rows)
+    ∙ sym (filter-map (λ (f : MarkedFields). int_eq f.done (pos 1)) read_marked rows)
+    ∙ ap (filter (λ (f : MarkedFields). int_eq f.done (pos 1))) is
+    ∙ filter-map (λ (f : MarkedFields). int_eq f.done (pos 1)) marked_fields us
+
+-- the uploads are the complete ones exactly if what was read of them is
+pub uploads_decided : (same : Bool) (xs ys rows theirs : List MarkedUpload) (us ws : List Upload) → xs ≡ filter (λ m. m.is_complete) rows → ys ≡ theirs → AreMarkedOf rows us → AreMarkedOf theirs ws
+    → Decides same (ArePaired (λ a b. read_marked a ≡ read_marked b) xs ys) → Decides same (ws ≡ filter is_complete us)
+uploads_decided same xs ys rows theirs us ws is_x is_y p q d =
+    Decides-like same (same_uploads ws (filter is_complete us)) (ap (map marked_fields))
+    (rows_decided read_marked same xs ys (filter (λ m. m.is_complete) rows) theirs (map marked_fields (filter is_complete us)) (map marked_fields ws) is_x is_y (complete_read rows us p) q d)

@@ -1,8 +1,12 @@
 -- The keys that were read are those of the chunks, but for staged uploads, in order.
-use Rattle.std.proofs.Common.{◌≡◌, ◌∙◌, ◌||◌, ◌&&◌, ℕ, ℤ, ◌+◌, ◌<◌, suc, zero, Bool, true, false, not, cond, List, [], ◌∷◌, map, filter, find, length, slice_index_or, Some, is_some, MatchBool, Ordering, Less, Equal, Greater, is_lt, IsPermutation, IsSorted, refl, sym, ap, subst, arith, add-one}
+use Rattle.std.proofs.Common.{pos, ◌≡◌, ◌∙◌, ◌||◌, ◌&&◌, ℕ, ℤ, ◌+◌, ◌<◌, suc, zero, Bool, true, false, not, cond, List, [], ◌∷◌, map, filter, find, length, slice_index_or, Some, is_some, MatchBool, Ordering, Less, Equal, Greater, is_lt, IsPermutation, IsSorted, refl, sym, ap, subst, arith, add-one}
 use Rattle.std.specs.Bool.{Decides}
 use Rattle.std.specs.List.{list_any, AllByRecursion, AllAdjacentBelow, IsAllAdjacentAnswer}
-use Rattle.std.specs.Ordering.{int_eq}
+use Rattle.std.specs.List.Sorted.{IsSortedBy}
+use Rattle.std.specs.Ordering.{int_cmp, int_eq, nat_cmp, ordering_then}
+use Rattle.std.proofs.lemmas.Bool.Decides.{nat_tests}
+use Rattle.std.proofs.lemmas.Int.{ints}
+use Rattle.refinement.proofs.Orders.{sorted_map}
 use Rattle.std.proofs.lemmas.Bool.{true≢false}
 use Rattle.std.proofs.lemmas.List.Sorted.{IsPermutation-map, IsPermutation-sym, IsPermutation-trans}
 use Rattle.sqlite_trees.specs.Tree.{IsAscending}
@@ -18,6 +22,17 @@ use Rattle.compared.specs.Keys.{AreKeysInOrder, KeysRise, key_cmp}
 use Rattle.compared.proofs.KeyLists.{key_total}
 
 -- ---- in order
+
+-- the order in which the keys are sorted
+sort_order : (a b : ChunkKey) → is_lt (ordering_then (int_cmp a.upload.number b.upload.number) (nat_cmp a.n b.n)) ≡ is_lt (key_cmp (read_key a) (read_key b))
+sort_order a b = ap (λ o. is_lt (ordering_then (int_cmp a.upload.number b.upload.number) o)) (pos_order a.n b.n)
+  where
+    pos_order : (m n : ℕ) → nat_cmp m n ≡ int_cmp (pos m) (pos n)
+    pos_order m n = grind (arith, ints, nat_tests)
+
+pub sorted_keys : (ks : List ChunkKey) → IsSortedBy (λ (x y : ChunkKey). is_lt (ordering_then (int_cmp x.upload.number y.upload.number) (nat_cmp x.n y.n))) ks
+    → IsSorted key_cmp (map read_key ks)
+sorted_keys ks up = sorted_map key_cmp read_key ks (λ k d low high. sym (sort_order (slice_index_or ks (k + 1) d) (slice_index_or ks k d)) ∙ up k d low high)
 
 pub keys_in_order : (found sorted : List ChunkKey) (chunks : List Chunk) → IsPermutation found sorted → IsSorted key_cmp (map read_key sorted)
     → IsPermutation (map read_key found) (map key_fields chunks) → AreKeysInOrder sorted chunks

@@ -1,7 +1,8 @@
 -- The contracts of comparisons.
-use Rattle.std.specs.Prelude.{◌≡◌, ◌<◌, ℕ, Bool, List, length, slice_index_or, Result, IfOk}
+use Rattle.std.specs.Prelude.{◌≡◌, ◌<◌, ℕ, Bool, List, [], ◌∷◌, length, slice_index_or, Result, IfOk}
 use Rattle.std.specs.Bool.{Decides}
 use Rattle.tables.specs.Rows.{Tables}
+use Rattle.tables.specs.Runs.{current_meta}
 use Rattle.tables.specs.declared.fault.StoreFault.{StoreFault}
 use Rattle.store.specs.declared.state.State.{Ghosts}
 use Rattle.store.specs.Shown.{IsHonest, IsOpen, HasTables, Moves, AddsNothing, shown}
@@ -14,6 +15,10 @@ pub record ArePaired {X : Type 0} (R : X → X → Type 0) (xs ys : List X) : Ty
 -- while the store is open, it shows these tables
 abbrev pub Shows : {S : Type 0} → Ghosts S → S → Tables → Type 0
 Shows g s t = IsOpen g s → shown g s ≡ t
+
+-- while the store is honest and open, its row of `meta` is that of the current version
+abbrev pub IsCurrent : {S : Type 0} → Ghosts S → S → Type 0
+IsCurrent g s = IsHonest g s → IsOpen g s → (shown g s).meta ≡ current_meta ∷ []
 
 module _ {S T : Type 0} (g : Ghosts S) (h : Ghosts T) where
   -- two stores were only read: they show what they showed, and a stop leaves no more than before

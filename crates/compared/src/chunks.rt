@@ -69,7 +69,10 @@ pub(crate) fn have_same_chunks<A: Listed, B: Listed>(
 {
     let ours = settled_keys(alloc, old)?;
     let theirs = all_keys(alloc, new)?;
-    if !rise(&ours) || !are_same(&ours, &theirs) {
+    if !rise(&ours) {
+        return Ok(false);
+    }
+    if !are_same(&ours, &theirs) {
         return Ok(false);
     }
     have_same_bytes(old, new, &ours)

@@ -3,4 +3,4 @@ use Rattle.compared.proofs.Comparisons.{SameSoFar}
 use Rattle.compared.proofs.chunks.have_same_bytes.Given as goal
 
 abbrev pub invariant-loop-key : goal.invariant-loop-key
-invariant-loop-key g l = SameSoFar g.A.State g.B.State l.key-items l.key-index l.initial.old l.old l.initial.new l.new
+invariant-loop-key g l = SameSoFar g.A.State g.B.State l.keys l.key-index l.initial.old l.old l.initial.new l.new
