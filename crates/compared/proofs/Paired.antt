@@ -62,3 +62,7 @@ module _ {X Y : Type 0} (f : X → Y) where
       at : ArePaired (λ a b. f a ≡ f b) xs ys → (i : ℕ) (d k : X) → i < length (x ∷ xs) → f (slice_index_or (x ∷ xs) i d) ≡ f (slice_index_or (y ∷ ys) i k)
       at rest zero d k less = head_same (f x) (f y) (map f xs) (map f ys) e
       at rest (suc i) d k less = rest.each i d k (omega (arith, less))
+
+-- the same lists, by other names
+pub paired_at : {X : Type 0} (R : X → X → Type 0) (xs ys us vs : List X) → xs ≡ us → ys ≡ vs → ArePaired R xs ys → ArePaired R us vs
+paired_at R xs ys us vs p q paired = subst (λ l. ArePaired R l vs) p (subst (ArePaired R xs) q paired)
