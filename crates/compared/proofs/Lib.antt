@@ -4,3 +4,4 @@ pub mod KeyLists
 pub mod KeyCalls
 pub mod Comparisons
 pub mod Represented
+pub mod Whole
