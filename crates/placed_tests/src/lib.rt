@@ -4,6 +4,8 @@
 #[cfg(test)]
 mod beside_rows;
 #[cfg(test)]
+mod copies;
+#[cfg(test)]
 mod harness;
 #[cfg(test)]
 mod layouts;

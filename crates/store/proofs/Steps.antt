@@ -13,7 +13,9 @@ use Rattle.sqlite_keyed.specs.Lists.{sort_by}
 use Rattle.sqlite_keyed.proofs.ListLemmas.{map-map}
 use Rattle.sqlite_keyed.proofs.SortLemmas.{sort_by-map, IsPermutation-sort_by}
 use Rattle.tables.specs.Rows.{Chunk, Upload, Lock, Token, Tables}
-use Rattle.tables.specs.Statements.{has_number, is_of, is_of_from, is_chunk, is_staged_in, is_object, with_lock, with_chunk, with_upload, with_done, with_token, with_retired, without_lock, without_expired, without_row, without_chunks, without_chunks_from}
+use Rattle.tables.specs.Listing.{key_fields, read_key, AreKeysOf}
+use Rattle.tables.specs.Restoring.{restored_upload, with_upload_at, with_new_chunk, with_restored}
+use Rattle.tables.specs.Statements.{has_number, is_of, is_of_from, is_chunk, is_staged_in, is_object, with_lock, with_counts, with_chunk, with_upload, with_done, with_token, with_retired, without_lock, without_expired, without_row, without_chunks, without_chunks_from}
 use Rattle.tables.specs.Steps.{Outcome, held, used_up, created, used_of, after_outcome, outcome_of, after_create, with_new_lock, with_made, has_token, after_add}
 use Rattle.tables.specs.Staging.{NumberedFields, numbered_fields, read_numbered, AreNumbered, AreUploadsOf, chunk_bytes, IsChunkOf, objects_of, staged_with, without_upload, without_found, without_found_from, without_staged, without_staged_from, without_staged_in, after_begin, with_used, with_bytes, with_last, with_kept, completion_by, after_completion, after_found, after_complete}
 use Rattle.tables.specs.Retiring.{without_object, without_found_object, after_retire}
@@ -23,8 +25,11 @@ use Rattle.tables.specs.declared.new_rows.LastChunk.{LastChunk}
 use Rattle.tables.specs.declared.rows.Completion.{Completion}
 use Rattle.tables.specs.declared.rows.UploadRow.{UploadRow}
 use Rattle.tables.specs.declared.rows.NumberedChunk.{NumberedChunk}
+use Rattle.tables.specs.declared.rows.ChunkKey.{ChunkKey}
+use Rattle.tables.specs.declared.new_rows.NewUpload.{NewUpload}
+use Rattle.tables.specs.declared.new_rows.NewChunk.{NewChunk}
 use Rattle.tables.specs.declared.rows.Completion.TheVariants as completion
-use Rattle.store.specs.Content.{content_bytes, IsContentOf, AreAllNumbered}
+use Rattle.store.specs.Content.{content_bytes, IsContentOf, AreAllNumbered, AreAllKeys}
 use Rattle.store.specs.Normal.{placeless, chunk_cmp, arranged, normal}
 use Rattle.store.specs.declared.content.ChunkContent.{ChunkContent}
 use Rattle.store.specs.declared.content.ChunkContent.TheVariants as content
@@ -204,6 +209,43 @@ unlock-agrees repo id t = refl
 pub expire-agrees : (moment : ℤ) (t : Tables) → normal (without_expired moment t) ≡ without_expired moment (normal t)
 unfolding without_expired
 expire-agrees moment t = refl
+
+-- ---- rows that are added as they are
+
+pub counts-agrees : (name : List ℕ) (made used : ℤ) (t : Tables) → normal (with_counts name made used t) ≡ with_counts name made used (normal t)
+unfolding with_counts
+counts-agrees name made used t = refl
+
+pub lock-agrees : (l : Lock) (t : Tables) → normal (with_lock l t) ≡ with_lock l (normal t)
+unfolding with_lock
+lock-agrees l t = refl
+
+pub retired-agrees : (repo oid : List ℕ) (t : Tables) → normal (with_retired repo oid t) ≡ with_retired repo oid (normal t)
+unfolding with_retired
+retired-agrees repo oid t = refl
+
+pub restore-agrees : (u : NewUpload) (id : ℤ) (chunk : Option NewChunk) (t : Tables) → normal (with_restored u id chunk t) ≡ normal (with_restored u id chunk (normal t))
+unfolding with_restored with_upload_at with_chunk
+restore-agrees u id chunk t = at chunk
+  where
+    added : Tables
+    added = with_upload_at (restored_upload u id) t
+
+    at : (o : Option NewChunk) → normal (with_new_chunk id o (with_upload_at (restored_upload u id) t)) ≡ normal (with_new_chunk id o (with_upload_at (restored_upload u id) (normal t)))
+    at None = ap (with_rows added) (sym (arranged-again t.chunks))
+    at (Some c) = ap (with_rows added) (arranged-push t.chunks _ _ refl)
+
+-- ---- chunks that are listed
+
+-- the keys of all chunks are found whatever their order
+pub keys-found : (found : List ChunkKey) (t : Tables) → AreKeysOf found t.chunks → AreAllKeys found (normal t)
+keys-found found t is =
+    let fields : map key_fields (map placeless t.chunks) ≡ map read_key found = map-map key_fields placeless t.chunks ∙ sym is in
+    let mixed : IsPermutation (map key_fields (arranged t.chunks)) (map key_fields (map placeless t.chunks)) =
+    IsPermutation-map key_fields (arranged t.chunks) (map placeless t.chunks)
+    (IsPermutation-sort_by chunk_cmp chunk_total (map placeless t.chunks)) in
+    IsPermutation-sym (map key_fields (arranged t.chunks)) (map read_key found)
+    (subst (IsPermutation (map key_fields (arranged t.chunks))) fields mixed)
 
 -- the chunks with a number are found whatever their order
 pub numbered-found : (n : ℕ) (found : List NumberedChunk) (t : Tables) → AreNumbered found (filter (has_number (pos n)) t.chunks)

@@ -3,7 +3,9 @@ use Rattle.std.specs.Prelude.{◌≡◌, ℕ, pos, List, Option, option_map, map
 use Rattle.tables.specs.Rows.{Chunk, Tables}
 use Rattle.tables.specs.Statements.{has_number}
 use Rattle.tables.specs.Staging.{chunk_bytes, numbered_fields, read_numbered}
+use Rattle.tables.specs.Listing.{key_fields, read_key}
 use Rattle.tables.specs.declared.rows.NumberedChunk.{NumberedChunk}
+use Rattle.tables.specs.declared.rows.ChunkKey.{ChunkKey}
 use Rattle.store.specs.declared.content.ChunkContent.{ChunkContent}
 use Rattle.store.specs.declared.content.ChunkContent.TheVariants as content
 
@@ -20,3 +22,7 @@ IsContentOf found c = option_map content_bytes found ≡ option_map (λ (k : Chu
 abbrev pub AreAllNumbered : ℕ → List NumberedChunk → Tables → Type 0
 AreAllNumbered n found t =
     IsPermutation (map read_numbered found) (map numbered_fields (filter (has_number (pos n)) t.chunks))
+
+-- the results are the keys of the chunks, in any order
+abbrev pub AreAllKeys : List ChunkKey → Tables → Type 0
+AreAllKeys found t = IsPermutation (map read_key found) (map key_fields t.chunks)

@@ -4,11 +4,15 @@
 
 mod content;
 mod database;
+mod listed;
 mod numbered;
+mod restored;
 mod state;
 mod store;
 
 pub use content::ChunkContent;
+pub use listed::Listed;
 pub use numbered::Numbered;
+pub use restored::Restored;
 pub use state::State;
 pub use store::Store;

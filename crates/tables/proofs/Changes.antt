@@ -6,8 +6,8 @@ use Rattle.sqlite_rules.specs.declared.error.Rowids.TheVariants.{Given}
 use Rattle.sqlite_keyed.proofs.RuleLemmas.{at_most_one}
 use Rattle.tables.specs.Layout.{current, version_of}
 use Rattle.tables.specs.Rows.{Retired, retired, id_of, tables_under}
-use Rattle.tables.specs.Statements.{with_lock, with_repo, with_made_at, without_lock, with_token, without_expired, with_chunk, without_row, without_chunks, without_chunks_from, with_done, with_used_row, with_used_at, with_retired, add_retired, has_id, writing}
-use Rattle.tables.proofs.Meanings.{IsCommand, add_lock_is, lock_terms, add_repo_is, repo_terms, set_made_is, remove_lock_is, add_token_is, token_terms, remove_expired_is, add_chunk_is, chunk_terms, remove_row_is, remove_chunks_is, remove_chunks_from_is, set_done_is, add_used_is, used_terms, set_used_is, add_retired_is, retired_terms}
+use Rattle.tables.specs.Statements.{with_lock, with_repo, with_made_at, without_lock, with_token, without_expired, with_chunk, without_row, without_chunks, without_chunks_from, with_done, with_used_row, with_used_at, with_counts, with_retired, add_retired, add_counts, has_id, writing}
+use Rattle.tables.proofs.Meanings.{IsCommand, add_lock_is, lock_terms, add_repo_is, repo_terms, set_made_is, remove_lock_is, add_token_is, token_terms, remove_expired_is, add_chunk_is, chunk_terms, remove_row_is, remove_chunks_is, remove_chunks_from_is, set_done_is, add_used_is, used_terms, set_used_is, add_retired_is, retired_terms, add_counts_is, count_terms}
 use Rattle.typed_rows.proofs.Writes.{removes, replaces, how_many, gone, changed}
 use Rattle.tables.proofs.Parts.{whole_of, keyed, back, part, tree_is, alone, alone_at, kept_under, own, rows_are, typed_at, typed_after, tables_after}
 
@@ -182,6 +182,14 @@ module _ (old new : State) (count : ℕ) (kept : IsKept old.now) (inside : old.i
       let at : ℤ → Retired = λ id. record { rowid = id; repo = repo; oid = oid } in
       added old new kept inside retired it.schema_is it.sound it.applies.tables it.shown at (λ _. refl) (it.applies.rows ∙ rw cast_null refl)
 
+  counts_added : (name : List ℕ) (n k : ℤ) → Executes (write_text (add_counts name n k)) (write_params (add_counts name n k)) old new (Ok count) → Steps (with_counts name n k) old new
+  unfolding with_counts writing
+  counts_added name n k h =
+      let m = add_counts_is old.now.schema (whole_of old.now kept) name n k in
+      let it = inserts (write_text (add_counts name n k)) (write_params (add_counts name n k)) old new old.now.schema refl (place_of old.now.schema repos) (table_for current repos (tree_of old.now.schema repos)) ((whole_of old.now kept).parts repos).found m.plain count_terms 4 m.is refl (alone old.now.schema (whole_of old.now kept) repos) count h in
+      let at : ℤ → Repo = λ id. record { rowid = id; name = name; made = n; used = k } in
+      added old new kept inside repos it.schema_is it.sound it.applies.tables it.shown at (λ _. refl) (it.applies.rows ∙ rw (cast_null, cast_int, cast_int))
+
   pub written : (w : Write) → Executes (write_text w) (write_params w) old new (Ok count) → IsWritten w count old new
   unfolding writing tables_under
   written (add_lock l) h = record { step = lock_added l h; gone = tt }
@@ -198,6 +206,7 @@ module _ (old new : State) (count : ℕ) (kept : IsKept old.now) (inside : old.i
   written (add_used name used) h = record { step = used_added name used h; gone = tt }
   written (set_used rowid used) h = record { step = used_set rowid used h; gone = tt }
   written (add_retired repo oid) h = record { step = name_retired repo oid h; gone = tt }
+  written (add_counts name made used) h = record { step = counts_added name made used h; gone = tt }
 
 pub written_inside : (old new : State) (w : Write) (sql : List ℕ) (params : Row) (r : Result ℕ Error) → (IsTrue old.is_open → IsKept old.now) → old.in_transaction ≡ true → sql ≡ write_text w → params ≡ write_params w
     → ExecutesInside 0 sql params old new r → IfOk r (λ count. IsWritten w count old new)

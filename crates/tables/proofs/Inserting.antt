@@ -21,14 +21,14 @@ module _ (schema : Schema) (whole : HasWhole schema) (mid new : Trees) (rest : S
   stays p = let here = tree_is (version_of whole.layout) p (tree_of schema p) in
       subst (λ n. new n ≡ mid n) here (each schema whole (λ (t : Table). t.tree ≢ (counters schema whole).tree → new t.tree ≡ mid t.tree) rest p (λ e. counters_apart schema whole p (sym here ∙ e)))
 
-  still_typed : AreTyped schema mid → AreTyped schema new
+  pub still_typed : AreTyped schema mid → AreTyped schema new
   unfolding AreTyped
   still_typed typed p = subst (λ rows. IsTypedBy (encode p) (decode p) rows) (sym (stays p)) (typed p)
 
   same_rows : (p : Part) → rows_in p schema new ≡ rows_in p schema mid
   same_rows p = ap (map (decode p)) (stays p)
 
-  same_tables : tables_under schema new ≡ tables_under schema mid
+  pub same_tables : tables_under schema new ≡ tables_under schema mid
   unfolding tables_under
   same_tables = λ i. record { meta = same_rows meta i; repos = same_rows repos i; tokens = same_rows tokens i; uploads = same_rows uploads i; chunks = same_rows chunks i; locks = same_rows locks i; retired = same_rows retired i; schema = schema }
 

@@ -9,7 +9,7 @@ use Rattle.tables.specs.Rows as part
 use Rattle.tables.proofs.Parts.{low_in, by_tree_in}
 use Rattle.tables.specs.Layout.{Version, version_of}
 use Rattle.tables.specs.Schemas.{HasPart, IsLaid}
-use Rattle.tables.specs.Statements.{staged_with, numbered, meta_query_text, retired_as, retired_in, add_retired, reading, writing}
+use Rattle.tables.specs.Statements.{staged_with, numbered, meta_query_text, retired_as, retired_in, all_repos, all_locks, all_tokens, all_retired, all_uploads, chunk_keys, add_retired, add_counts, reading, writing}
 
 abbrev pub lock_columns : List Term
 lock_columns = col 1 2 ∷ col 1 3 ∷ col 1 4 ∷ col 1 5 ∷ col 1 6 ∷ []
@@ -63,6 +63,9 @@ done_columns = col 1 0 ∷ col 1 0 ∷ lit Null ∷ col 1 2 ∷ col 1 3 ∷ col 
 
 abbrev pub retired_terms : List Term
 retired_terms = lit Null ∷ col 0 0 ∷ col 0 1 ∷ []
+
+abbrev pub count_terms : List Term
+count_terms = lit Null ∷ col 0 0 ∷ col 0 1 ∷ col 0 2 ∷ []
 
 abbrev pub used_terms : List Term
 used_terms = lit Null ∷ col 0 0 ∷ lit (Int (pos 0)) ∷ col 0 1 ∷ []
@@ -227,3 +230,31 @@ module _ (schema : Schema) (whole : HasWhole schema) where
   pub add_retired_is : (repo oid : List ℕ) → IsCommand schema (write_text (add_retired repo oid)) (Insert (place_of schema part.retired) (Values retired_terms 3))
   unfolding writing everything
   add_retired_is repo oid = has_meaning part.retired _ _ (refl, (refl, refl, refl))
+
+  pub all_repos_is : IsQuery schema (read_text all_repos) (query_of [] (col 1 1 ∷ col 1 2 ∷ col 1 3 ∷ []) (tree_of schema part.repos))
+  unfolding reading everything
+  all_repos_is = asks part.repos _ _ (codes "name" ∷ codes "made" ∷ codes "used" ∷ []) (refl, (record { alone = refl; single = refl; source = (refl, refl, refl, refl, refl); ungrouped = refl; whole = refl; shown = refl; filter = refl; order = refl }, (refl, refl)))
+
+  pub all_locks_is : IsQuery schema (read_text all_locks) (query_of [] (col 1 1 ∷ lock_columns) (tree_of schema part.locks))
+  unfolding reading everything
+  all_locks_is = asks part.locks _ _ (codes "repo" ∷ lock_names) (refl, (record { alone = refl; single = refl; source = (refl, refl, refl, refl, refl); ungrouped = refl; whole = refl; shown = refl; filter = refl; order = refl }, (refl, refl)))
+
+  pub all_tokens_is : IsQuery schema (read_text all_tokens) (query_of [] token_columns (tree_of schema part.tokens))
+  unfolding reading everything
+  all_tokens_is = asks part.tokens _ _ token_names (refl, (record { alone = refl; single = refl; source = (refl, refl, refl, refl, refl); ungrouped = refl; whole = refl; shown = refl; filter = refl; order = refl }, (refl, refl)))
+
+  pub all_retired_is : IsQuery schema (read_text all_retired) (query_of [] (col 1 1 ∷ col 1 2 ∷ []) (tree_of schema part.retired))
+  unfolding reading everything
+  all_retired_is = asks part.retired _ _ (codes "repo" ∷ codes "oid" ∷ []) (refl, (record { alone = refl; single = refl; source = (refl, refl, refl, refl, refl); ungrouped = refl; whole = refl; shown = refl; filter = refl; order = refl }, (refl, refl)))
+
+  pub all_uploads_is : IsQuery schema (read_text all_uploads) (query_of [] upload_columns (tree_of schema part.uploads))
+  unfolding reading everything
+  all_uploads_is = asks part.uploads _ _ upload_names (refl, (record { alone = refl; single = refl; source = (refl, refl, refl, refl, refl); ungrouped = refl; whole = refl; shown = refl; filter = refl; order = refl }, (refl, refl)))
+
+  pub chunk_keys_is : IsQuery schema (read_text chunk_keys) (query_of [] (col 1 1 ∷ col 1 2 ∷ []) (tree_of schema part.chunks))
+  unfolding reading everything
+  chunk_keys_is = asks part.chunks _ _ (codes "upload" ∷ codes "n" ∷ []) (refl, (record { alone = refl; single = refl; source = (refl, refl, refl, refl, refl); ungrouped = refl; whole = refl; shown = refl; filter = refl; order = refl }, (refl, refl)))
+
+  pub add_counts_is : (name : List ℕ) (made used : ℤ) → IsCommand schema (write_text (add_counts name made used)) (Insert (place_of schema part.repos) (Values count_terms 4))
+  unfolding writing everything
+  add_counts_is name made used = has_meaning part.repos _ _ (refl, (refl, refl, refl))

@@ -7,8 +7,8 @@ use Rattle.tables.specs.Rows.{id_of, tables_under}
 use Rattle.tables.specs.Rows as part
 use Rattle.tables.specs.Layout.{Version}
 use Rattle.tables.specs.Runs.{HasMeta}
-use Rattle.tables.specs.Statements.{staged_with, has_id, is_in, meta_query_text, retired_as, retired_in, is_retired_as, is_retired_in, show_retired, reading, numbered, has_number, show_numbered}
-use Rattle.tables.proofs.Meanings.{IsQuery, meta_is, made_is, lock_at_is, lock_with_id_is, locks_in_is, locks_from_is, token_is, tokens_of_is, tokens_in_is, used_is, staged_with_is, object_is, objects_in_is, objects_is, staged_is, chunk_at_is, numbered_is, retired_as_is, retired_in_is}
+use Rattle.tables.specs.Statements.{staged_with, has_id, is_in, meta_query_text, retired_as, retired_in, is_retired_as, is_retired_in, show_retired, reading, numbered, has_number, show_numbered, all_repos, all_locks, all_tokens, all_retired, all_uploads, chunk_keys, show_repo, show_repo_lock, show_repo_retired, show_chunk_key}
+use Rattle.tables.proofs.Meanings.{IsQuery, meta_is, made_is, lock_at_is, lock_with_id_is, locks_in_is, locks_from_is, token_is, tokens_of_is, tokens_in_is, used_is, staged_with_is, object_is, objects_in_is, objects_is, staged_is, chunk_at_is, numbered_is, retired_as_is, retired_in_is, all_repos_is, all_locks_is, all_tokens_is, all_retired_is, all_uploads_is, chunk_keys_is}
 use Rattle.tables.proofs.Parts.{whole_of, keyed, back, own, own_in, typed_at}
 use Rattle.typed_rows.proofs.Selects.{selected}
 use Rattle.tables.proofs.Selects.{sorted, named, by_names}
@@ -20,6 +20,13 @@ module _ (old new : State) (rows : List Row) (kept : IsKept old.now) where
       → Shown sql params old new rows → rows ≡ map show (filter passes (rows_in p old.now.schema old.now.trees))
   part_read p sql params tests project m passes tested show shows h =
       selected (id_of p) (encode p) (decode p) (keyed p) (back p) sql params old new old.now.schema refl m.plain m.unlisted _ _ (tree_of old.now.schema p) m.names m.command (typed_at p old.now.schema old.now.trees kept.typed) (own old.now.schema (whole_of old.now kept) p old.now.trees) passes tested show shows rows h
+
+  -- all rows of one table
+  whole_read : (p : Part) (sql : List ℕ) (params : Row) (project : List Term) → IsQuery old.now.schema sql (query_of [] project (tree_of old.now.schema p)) → (show : RowOf p → Row)
+      → ((x : RowOf p) → eval_all project (params ∷ encode p x ∷ []) ≡ show x) → Shown sql params old new rows → rows ≡ map show (rows_in p old.now.schema old.now.trees)
+  whole_read p sql params project m show shows h =
+      part_read p sql params [] project m (λ _. true) (λ _. refl) show shows h
+      ∙ ap (map show) (filter_all _ _ (all_of _ (λ _. refl) (rows_in p old.now.schema old.now.trees)))
 
   pub answers : (r : Read) → Shown (read_text r) (read_params r) old new rows → rows ≡ answer r (tables_in old)
   unfolding reading tables_under
@@ -48,6 +55,12 @@ module _ (old new : State) (rows : List Row) (kept : IsKept old.now) where
   answers (numbered n) h = part_read part.chunks _ _ _ _ (numbered_is old.now.schema (whole_of old.now kept) n) (has_number (pos n)) (λ c. last_term (at_ints false Eq c.n (pos n))) show_numbered (λ _. refl) h
   answers (chunk_at upload n) h =
       part_read part.chunks _ _ _ _ (chunk_at_is old.now.schema (whole_of old.now kept) upload n) (is_chunk upload (pos n)) (λ c. then_term (at_ints false Eq c.upload upload) (last_term (at_ints false Eq c.n (pos n)))) show_bytes (λ _. refl) h
+  answers all_repos h = whole_read part.repos _ _ _ (all_repos_is old.now.schema (whole_of old.now kept)) show_repo (λ _. refl) h
+  answers all_locks h = whole_read part.locks _ _ _ (all_locks_is old.now.schema (whole_of old.now kept)) show_repo_lock (λ _. refl) h
+  answers all_tokens h = whole_read part.tokens _ _ _ (all_tokens_is old.now.schema (whole_of old.now kept)) show_token (λ _. refl) h
+  answers all_retired h = whole_read part.retired _ _ _ (all_retired_is old.now.schema (whole_of old.now kept)) show_repo_retired (λ _. refl) h
+  answers all_uploads h = whole_read part.uploads _ _ _ (all_uploads_is old.now.schema (whole_of old.now kept)) show_upload (λ _. refl) h
+  answers chunk_keys h = whole_read part.chunks _ _ _ (chunk_keys_is old.now.schema (whole_of old.now kept)) show_chunk_key (λ _. refl) h
 
 pub plain_read : (schema : Schema) (whole : HasWhole schema) (r : Read) → IsPlain (understood schema (read_text r))
 plain_read schema whole (made_by repo) = (made_is schema whole repo).plain
@@ -68,6 +81,12 @@ plain_read schema whole (chunk_at upload n) = (chunk_at_is schema whole upload n
 plain_read schema whole (numbered n) = (numbered_is schema whole n).plain
 plain_read schema whole (retired_as repo oid) = (retired_as_is schema whole repo oid).plain
 plain_read schema whole (retired_in repo) = (retired_in_is schema whole repo).plain
+plain_read schema whole all_repos = (all_repos_is schema whole).plain
+plain_read schema whole all_locks = (all_locks_is schema whole).plain
+plain_read schema whole all_tokens = (all_tokens_is schema whole).plain
+plain_read schema whole all_retired = (all_retired_is schema whole).plain
+plain_read schema whole all_uploads = (all_uploads_is schema whole).plain
+plain_read schema whole chunk_keys = (chunk_keys_is schema whole).plain
 
 -- a statement that is run while the store is ready
 pub answered : (old new : State) (sql : List ℕ) (params : Row) (rows : List Row) → (IsTrue old.is_open → IsKept old.now) → Shown sql params old new rows → Answered sql params (tables_in old) rows

@@ -1,9 +1,13 @@
 -- What a store remembers of staged uploads stays true.
-use Rattle.tables.proofs.Prelude.{◌≡◌, ℕ, ℤ, pos, Bool, true, false, cond, not, List, [], ◌∷◌, Some, None, Option, refl, sym, subst, Vec, update_where, delete_where, all-filter, all_map, all_weaker, Remembered, LastChunk, Token, Upload, Chunk, Lock, Tables, is_upload, Outcome, held, used_up, outcome_of, after_outcome, has_token, without_found, without_found_from, with_bytes, completion_by, after_completion, after_found, Completion, IsRemembered}
-use Rattle.tables.specs.Statements.{with_chunk, without_lock, without_expired, with_lock, with_token, without_row, without_chunks, without_chunks_from, with_done}
+use Rattle.tables.proofs.Prelude.{◌≡◌, ℕ, ℤ, pos, Bool, true, false, cond, not, List, [], ◌∷◌, Some, None, Option, refl, sym, ap, subst, ◌∙◌, true≢false, AllByRecursion, int_eq, int_cmp, Ordering, Less, Equal, Greater, NewUpload, Vec, update_where, delete_where, all-filter, all_map, all_weaker, Remembered, LastChunk, Token, Upload, Chunk, Lock, Tables, is_upload, Outcome, held, used_up, outcome_of, after_outcome, has_token, without_found, without_found_from, with_bytes, completion_by, after_completion, after_found, Completion, IsRemembered}
+use Rattle.tables.specs.Statements.{with_chunk, without_lock, without_expired, with_lock, with_token, with_counts, with_retired, without_row, without_chunks, without_chunks_from, with_done}
 use Rattle.tables.specs.Steps.{created, after_create, with_made, with_new_lock, after_add}
 use Rattle.tables.specs.Staging.{without_upload, without_staged, without_staged_from, staged_with, with_used, with_last, with_kept, after_complete}
 use Rattle.tables.specs.declared.rows.Completion.TheVariants as completion
+use Rattle.std.specs.Ordering.{match_ordering}
+use Rattle.sqlite_keyed.specs.Keyed.{insert_by}
+use Rattle.tables.specs.declared.new_rows.NewChunk.{NewChunk}
+use Rattle.tables.specs.Restoring.{restored_upload, with_upload_at, with_new_chunk, with_restored}
 use Rattle.tables.specs.Remembered.{KnowsStaged}
 
 -- the step keeps what is remembered true
@@ -42,6 +46,18 @@ add_keeps k = leaves_uploads (after_add k) (λ t. add_leaves k t (has_token k.di
 pub prune_keeps : (moment : ℤ) → KeepsKnown (without_expired moment)
 unfolding without_expired
 prune_keeps moment = leaves_uploads (without_expired moment) (λ t. refl)
+
+pub counts_keep : (name : List ℕ) (made used : ℤ) → KeepsKnown (with_counts name made used)
+unfolding with_counts
+counts_keep name made used = leaves_uploads (with_counts name made used) (λ t. refl)
+
+pub lock_keeps : (l : Lock) → KeepsKnown (with_lock l)
+unfolding with_lock
+lock_keeps l = leaves_uploads (with_lock l) (λ t. refl)
+
+pub retired_keeps : (repo oid : List ℕ) → KeepsKnown (with_retired repo oid)
+unfolding with_retired
+retired_keeps repo oid = leaves_uploads (with_retired repo oid) (λ t. refl)
 
 pub chunk_keeps : (c : Chunk) → KeepsKnown (with_chunk c)
 unfolding with_chunk
@@ -113,3 +129,29 @@ complete_found (Some u) last oid size known t h = completion_keeps (completion_b
 pub complete_keeps : (id : ℤ) (last : LastChunk) (oid : List ℕ) (size : ℤ) → KeepsKnown (after_complete id last oid size)
 unfolding after_complete
 complete_keeps id last oid size known t h = complete_found (staged_with id t) last oid size known t h
+
+-- an upload is added, and may take the place of one
+all_placed : (P : Upload → Type 0) (u : Upload) (us : List Upload) → P u → AllByRecursion P us → AllByRecursion P (insert_by (λ (x : Upload). x.id) us u)
+all_placed P u [] here all = (here, tt)
+all_placed P u (x ∷ us) here all = at (int_cmp x.id u.id) (all_placed P u us here all.1)
+  where
+    at : (o : Ordering) → AllByRecursion P (insert_by (λ (y : Upload). y.id) us u) → AllByRecursion P (match_ordering o (x ∷ insert_by (λ (y : Upload). y.id) us u) (u ∷ us) (u ∷ x ∷ us))
+    at Less rest = (all.0, rest)
+    at Equal rest = (here, all.1)
+    at Greater rest = (here, all)
+
+object_known : (known : Option (Vec Remembered)) (u : Upload) (us : List Upload) → u.done ≡ pos 1 → KnowsStaged known us → KnowsStaged known (insert_by (λ (x : Upload). x.id) us u)
+unfolding KnowsStaged
+object_known None u us done h = tt
+object_known (Some known) u us done h =
+    all_placed (IsRemembered known.items) u us (λ staged. absurd (true≢false (sym staged ∙ ap (λ n. int_eq n (pos 0)) done))) h
+
+new_leave : (id : ℤ) (chunk : Option NewChunk) (t : Tables) → (with_new_chunk id chunk t).uploads ≡ t.uploads
+unfolding with_chunk
+new_leave id None t = refl
+new_leave id (Some c) t = refl
+
+pub restore_keeps : (u : NewUpload) (id : ℤ) (chunk : Option NewChunk) → KeepsKnown (with_restored u id chunk)
+unfolding with_restored with_upload_at
+restore_keeps u id chunk known t h =
+    leaves_uploads (with_new_chunk id chunk) (new_leave id chunk) known (with_upload_at (restored_upload u id) t) (object_known known (restored_upload u id) t.uploads refl h)

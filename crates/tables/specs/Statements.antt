@@ -165,6 +165,22 @@ show_numbered c = Int c.upload ∷ Blob c.bytes ∷ []
 abbrev pub show_retired : Retired → Row
 show_retired r = Text r.oid ∷ []
 
+-- the columns that are returned of a row of `repos`, without its rowid
+abbrev pub show_repo : Repo → Row
+show_repo r = Text r.name ∷ Int r.made ∷ Int r.used ∷ []
+
+-- the columns that are returned of a lock with its repository
+abbrev pub show_repo_lock : Lock → Row
+show_repo_lock l = Text l.repo ∷ Int l.id ∷ Text l.ref_name ∷ Text l.path ∷ Text l.owner ∷ Int l.moment ∷ []
+
+-- the columns that are returned of a retired name with its repository
+abbrev pub show_repo_retired : Retired → Row
+show_repo_retired r = Text r.repo ∷ Text r.oid ∷ []
+
+-- the columns that are returned of a chunk without its bytes
+abbrev pub show_chunk_key : Chunk → Row
+show_chunk_key c = Int c.upload ∷ Int c.n ∷ []
+
 -- the statement that reads the number of the version, in a database of any version
 abbrev pub meta_query_text : List ℕ
 meta_query_text = codes "SELECT one, version FROM meta ORDER BY rowid"
@@ -197,6 +213,12 @@ pub data Read : Type 0 where
   numbered : ℕ → Read
   retired_as : List ℕ → List ℕ → Read
   retired_in : List ℕ → Read
+  all_repos : Read
+  all_locks : Read
+  all_tokens : Read
+  all_retired : Read
+  all_uploads : Read
+  chunk_keys : Read
 
 -- each reading statement, with the rows that it returns
 unfoldable pub reading : Read → Statement (Tables → List Row)
@@ -290,6 +312,36 @@ reading (retired_in repo) = record {
   params = Text repo ∷ [];
   meaning = λ t. map show_retired (by_oid (filter (is_retired_in repo) t.retired));
 }
+reading all_repos = record {
+  text = codes "SELECT name, made, used FROM repos ORDER BY rowid";
+  params = [];
+  meaning = λ t. map show_repo t.repos;
+}
+reading all_locks = record {
+  text = codes "SELECT repo, id, ref, path, owner, moment FROM locks ORDER BY rowid";
+  params = [];
+  meaning = λ t. map show_repo_lock t.locks;
+}
+reading all_tokens = record {
+  text = codes "SELECT digest, user, repo, op, expires FROM tokens ORDER BY rowid";
+  params = [];
+  meaning = λ t. map show_token t.tokens;
+}
+reading all_retired = record {
+  text = codes "SELECT repo, oid FROM retired ORDER BY rowid";
+  params = [];
+  meaning = λ t. map show_repo_retired t.retired;
+}
+reading all_uploads = record {
+  text = codes "SELECT id, repo, oid, size, done FROM uploads ORDER BY rowid";
+  params = [];
+  meaning = λ t. map show_upload t.uploads;
+}
+reading chunk_keys = record {
+  text = codes "SELECT upload, n FROM chunks ORDER BY rowid";
+  params = [];
+  meaning = λ t. map show_chunk_key t.chunks;
+}
 
 -- the text of a reading statement
 abbrev pub read_text : Read → List ℕ
@@ -325,6 +377,7 @@ pub data Write : Type 0 where
   add_used : List ℕ → ℤ → Write
   set_used : ℤ → ℤ → Write
   add_retired : List ℕ → List ℕ → Write
+  add_counts : List ℕ → ℤ → ℤ → Write
 
 -- the tables with one more lock
 unfoldable pub with_lock : Lock → Tables → Tables
@@ -381,6 +434,10 @@ with_used_row name used t = record t { repos = t.repos ++ record { rowid = next_
 -- the tables with this number of stored bytes, in the row with this rowid
 unfoldable pub with_used_at : ℤ → ℤ → Tables → Tables
 with_used_at rowid used t = record t { repos = update_where (λ r. int_eq r.rowid rowid) (λ r. record r { used = used }) t.repos }
+
+-- the tables with one more repository, which made this number of locks and stores this number of bytes
+unfoldable pub with_counts : List ℕ → ℤ → ℤ → Tables → Tables
+with_counts name made used t = record t { repos = t.repos ++ record { rowid = next_key (λ x. x.rowid) t.repos; name = name; made = made; used = used } ∷ [] }
 
 -- the tables with one more retired name
 unfoldable pub with_retired : List ℕ → List ℕ → Tables → Tables
@@ -471,6 +528,11 @@ writing (add_retired repo oid) = record {
   text = codes "INSERT INTO retired (repo, oid) VALUES (?1, ?2)";
   params = Text repo ∷ Text oid ∷ [];
   meaning = record { step = with_retired repo oid; removed = None };
+}
+writing (add_counts name made used) = record {
+  text = codes "INSERT INTO repos (name, made, used) VALUES (?1, ?2, ?3)";
+  params = Text name ∷ Int made ∷ Int used ∷ [];
+  meaning = record { step = with_counts name made used; removed = None };
 }
 
 -- the text of a writing statement

@@ -15,11 +15,13 @@ mod chunks;
 mod discarding;
 mod fault;
 mod layout;
+mod listing;
 mod locks;
 mod making;
 mod new_rows;
 mod open;
 mod read;
+mod restoring;
 mod retiring;
 mod rows;
 mod schema;
@@ -32,10 +34,10 @@ mod write;
 pub use chunks::ChunkRow;
 pub use fault::{OpenFault, StoreFault};
 pub use layout::Layout;
-pub use new_rows::{LastChunk, NewLock, NewToken, NewUpload};
+pub use new_rows::{LastChunk, NewChunk, NewLock, NewToken, NewUpload};
 pub use rows::{
-    Completion, Creation, LockRow, Migrated, NumberedChunk, ObjectRow, TokenRow, UploadId,
-    UploadRow,
+    ChunkKey, Completion, Creation, LockRow, MarkedUpload, Migrated, NumberedChunk, ObjectRow,
+    RepoLock, RepoRow, RetiredRow, TokenRow, UploadId, UploadRow,
 };
 pub use sqlite::{Alter, Start, Unknown};
 pub use storage::Storage;

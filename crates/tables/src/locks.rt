@@ -106,7 +106,7 @@ fn count_in<S: Alter>(
     first_count(rows.as_slice())
 }
 
-fn lock_into<S: Alter>(
+pub(crate) fn lock_into<S: Alter>(
     tx: &mut Transaction<'_, S>,
     lock: &NewLock<'_>,
     id: LockId,

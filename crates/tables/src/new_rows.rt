@@ -28,7 +28,7 @@ pub struct NewToken<'a> {
     pub expires: Moment,
 }
 
-/// An upload to be begun.
+/// An upload to be begun, or an object to be added as it is.
 #[derive(Clone, Copy, Debug)]
 pub struct NewUpload<'a> {
     pub repo: &'a RepoName,
@@ -36,6 +36,13 @@ pub struct NewUpload<'a> {
     pub oid: &'a Oid,
     /// The number of its bytes.
     pub size: Size,
+}
+
+/// A chunk of an object that is added as it is.
+#[derive(Clone, Copy, Debug)]
+pub struct NewChunk<'a> {
+    pub n: u32,
+    pub bytes: &'a [u8],
 }
 
 /// The last chunk of an upload, which is added when the upload is completed.

@@ -67,7 +67,7 @@ pub(crate) fn object_in<S: Alter>(
     first_object(rows.as_slice())
 }
 
-fn name_into<S: Alter>(
+pub(crate) fn name_into<S: Alter>(
     tx: &mut Transaction<'_, S>,
     repo: &RepoName,
     oid: &Oid,

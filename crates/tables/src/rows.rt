@@ -79,6 +79,45 @@ pub struct NumberedChunk {
     pub bytes: Vec<u8>,
 }
 
+/// A repository with its counts.
+#[derive(Debug, Drop)]
+pub struct RepoRow {
+    pub name: RepoName,
+    /// The number of locks that it ever made.
+    pub made: u32,
+    /// The number of bytes that it stores.
+    pub used: u64,
+}
+
+/// A lock with its repository.
+#[derive(Debug, Drop)]
+pub struct RepoLock {
+    pub repo: RepoName,
+    pub lock: LockRow,
+}
+
+/// A name that a repository has retired.
+#[derive(Debug, Drop)]
+pub struct RetiredRow {
+    pub repo: RepoName,
+    pub oid: Oid,
+}
+
+/// An upload with its mark.
+#[derive(Debug, Drop)]
+pub struct MarkedUpload {
+    pub upload: UploadRow,
+    /// Whether it is an object; if not, it is staged.
+    pub is_complete: bool,
+}
+
+/// Which chunk of which upload a chunk is.
+#[derive(Clone, Copy, Debug)]
+pub struct ChunkKey {
+    pub upload: UploadId,
+    pub n: u32,
+}
+
 /// An object: a complete upload, without its names, which the caller knows.
 #[derive(Clone, Copy, Debug)]
 pub struct ObjectRow {
@@ -180,7 +219,7 @@ fn token_from(row: &Row) -> Result<TokenRow, StoreFault>
 }
 
 /// The upload in a row. A row that is out of range is refused.
-fn upload_from(row: &Row) -> Result<UploadRow, StoreFault>
+pub(crate) fn upload_from(row: &Row) -> Result<UploadRow, StoreFault>
     ensures { (u : Upload) → row.now ≡ show_upload u → IfOk result
         (λ found. read_upload found ≡ upload_fields u) }
 {

@@ -101,7 +101,7 @@ fn used_with(total: Option<Total>, size: Size) -> Option<i64>
 }
 
 /// The number, which is refused if it is below 0.
-fn unsigned(number: i64) -> Result<u64, StoreFault>
+pub(crate) fn unsigned(number: i64) -> Result<u64, StoreFault>
     ensures { IfOk result (λ n. pos n ≡ number) }
 {
     u64::try_from(number).map_err(|_| StoreFault::Refused)

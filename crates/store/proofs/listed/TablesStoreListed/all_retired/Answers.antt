@@ -1,0 +1,5 @@
+use Rattle.store.proofs.Alone.{reads}
+use Rattle.store.proofs.listed.TablesStoreListed.all_retired.Goals as goal
+
+pub returns : goal.returns
+returns g c = reads g.S.Store c.args.self.now c.all_retired.new.self c.all_retired.result _ _ (λ t x is. is) c.all_retired.ensures
