@@ -18,9 +18,9 @@ use Rattle.store.specs.Content.{content_bytes, IsContentOf}
 use Rattle.store.specs.Normal.{arranged, is_of_staged, settled}
 use Rattle.store.specs.Shown.{HasTables, IsHonest, IsOpen, Moves, AddsNothing, Reads, shown}
 use Rattle.store.proofs.Moved.{moves_none, moves_then, nothing_none, nothing_then}
-use Rattle.compared.specs.declared.listed.ChunkKey.{ChunkKey}
-use Rattle.compared.specs.declared.listed.MarkedUpload.{MarkedUpload}
-use Rattle.compared.specs.Listing.{AreMarkedOf, KeyFields, MarkedFields, key_fields, mark_of, marked_fields, read_key, read_marked}
+use Rattle.tables.specs.declared.rows.ChunkKey.{ChunkKey}
+use Rattle.tables.specs.declared.rows.MarkedUpload.{MarkedUpload}
+use Rattle.tables.specs.Listing.{AreMarkedOf, KeyFields, MarkedFields, key_fields, mark_of, marked_fields, read_key, read_marked}
 use Rattle.compared.specs.Keys.{AreKeysInOrder, HasSameBytes, KeysRise, bytes_at}
 use Rattle.compared.specs.Same.{HaveSameChunks}
 use Rattle.compared.specs.Comparing.{ArePaired, Compares, ReadsBoth, Shows}

@@ -16,8 +16,8 @@ use Rattle.tables.specs.Statements.{is_staged, is_staged_with, is_upload}
 use Rattle.tables.specs.Staging.{UploadFields, upload_fields, read_upload, AreUploadsOf}
 use Rattle.tables.specs.declared.rows.UploadRow.{UploadRow}
 use Rattle.store.specs.Normal.{is_of_staged, settled}
-use Rattle.compared.specs.declared.listed.ChunkKey.{ChunkKey}
-use Rattle.compared.specs.Listing.{KeyFields, key_fields, read_key}
+use Rattle.tables.specs.declared.rows.ChunkKey.{ChunkKey}
+use Rattle.tables.specs.Listing.{KeyFields, key_fields, read_key}
 use Rattle.compared.specs.Keys.{AreKeysInOrder, KeysRise, key_cmp}
 use Rattle.compared.proofs.KeyLists.{key_total}
 

@@ -18,7 +18,7 @@ use Rattle.store.specs.Normal.{placeless, chunk_cmp, arranged}
 use Rattle.store.proofs.Steps.{chunk_total}
 use Rattle.tables.specs.Rows.{Chunk}
 use Rattle.tables.specs.Statements.{is_chunk}
-use Rattle.compared.specs.Listing.{KeyFields, key_fields}
+use Rattle.tables.specs.Listing.{KeyFields, key_fields}
 use Rattle.compared.specs.Keys.{KeysRise, key_cmp}
 use Rattle.compared.specs.Same.{HasOtherKey}
 use Rattle.compared.proofs.Paired.{head_same, tail_same}

@@ -17,7 +17,7 @@ use Rattle.refinement.specs.Objects.{RepresentObjects, HasSize, DiffersInRepo, b
 use Rattle.refinement.specs.Representation.{Represents, AreUnretired, lock_kept, lock_row, token_kept, token_row, retired_kept, retired_row}
 use Rattle.refinement.proofs.Found.{find_map}
 use Rattle.refinement.proofs.Rearranged.{remains_represented}
-use Rattle.compared.specs.Listing.{RepoFields, RepoLockFields, RetiredFields, repo_fields, repo_lock_fields, retired_fields}
+use Rattle.tables.specs.Listing.{RepoFields, RepoLockFields, RetiredFields, repo_fields, repo_lock_fields, retired_fields}
 use Rattle.compared.specs.Same.{AreSame}
 
 -- ---- rows that are the same in the columns that are read

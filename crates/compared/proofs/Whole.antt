@@ -9,7 +9,7 @@ use Rattle.store.specs.declared.state.State.{Ghosts}
 use Rattle.store.specs.Shown.{HasTables, IsHonest, shown}
 use Rattle.refinement.specs.Representation.{Holds, Represents}
 use Rattle.compared.specs.Comparing.{Compares, IsCurrent}
-use Rattle.compared.specs.Listing.{repo_fields, repo_lock_fields, retired_fields}
+use Rattle.tables.specs.Listing.{repo_fields, repo_lock_fields, retired_fields}
 use Rattle.compared.specs.Same.{AreSame, HaveSameChunks}
 use Rattle.compared.proofs.Represented.{same_represented}
 

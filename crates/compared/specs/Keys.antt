@@ -6,8 +6,8 @@ use Rattle.std.specs.declared.cmp.Ordering.TheVariants.{Less}
 use Rattle.sqlite_trees.specs.Tree.{IsAscending}
 use Rattle.tables.specs.Rows.{Chunk, Tables}
 use Rattle.tables.specs.Statements.{is_chunk}
-use Rattle.compared.specs.Listing.{KeyFields, key_fields, read_key}
-use Rattle.compared.specs.declared.listed.ChunkKey.{ChunkKey}
+use Rattle.tables.specs.Listing.{KeyFields, key_fields, read_key}
+use Rattle.tables.specs.declared.rows.ChunkKey.{ChunkKey}
 
 -- the order of keys by upload and number
 abbrev pub key_cmp : KeyFields → KeyFields → Ordering

@@ -1,4 +1,3 @@
-pub mod Listing
 pub mod Same
 pub mod Keys
 pub mod Comparing

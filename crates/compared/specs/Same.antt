@@ -5,7 +5,7 @@ use Rattle.tables.specs.Rows.{Chunk, Tables}
 use Rattle.tables.specs.Statements.{is_complete}
 use Rattle.tables.specs.Steps.{token_fields}
 use Rattle.store.specs.Normal.{settled}
-use Rattle.compared.specs.Listing.{repo_fields, repo_lock_fields, retired_fields, key_fields}
+use Rattle.tables.specs.Listing.{repo_fields, repo_lock_fields, retired_fields, key_fields}
 
 -- the two chunks are not of one upload with one number
 abbrev pub HasOtherKey : Chunk → Chunk → Type 0

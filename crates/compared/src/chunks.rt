@@ -8,15 +8,14 @@ ghost use Rattle.store.specs.Content.{content_bytes};
 ghost use Rattle.store.specs.Shown.{HasTables, IsHonest};
 ghost use Rattle.compared.specs.Comparing.{Compares, ReadsBoth, Shows};
 ghost use Rattle.compared.specs.Keys.{HasSameBytes};
-ghost use Rattle.compared.specs.Listing.{read_key};
+ghost use Rattle.tables.specs.Listing.{read_key};
 ghost use Rattle.compared.specs.Same.{HaveSameChunks};
 
 use crate::keys::{all_keys, rise, settled_keys};
-use crate::listed::{ChunkKey, Listed};
 use crate::rows::are_same;
 use std::alloc::Global;
-use store::{ChunkContent, Store};
-use tables::StoreFault;
+use store::{ChunkContent, Listed, Store};
+use tables::{ChunkKey, StoreFault};
 
 /// Whether both have the same bytes, or neither has any.
 fn has_same_bytes(old: &Option<ChunkContent>, new: &Option<ChunkContent>) -> bool

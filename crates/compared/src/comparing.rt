@@ -7,13 +7,13 @@ ghost use Rattle.model.specs.World.{World};
 ghost use Rattle.store.specs.Shown.{HasTables, IsHonest};
 ghost use Rattle.refinement.specs.Representation.{Holds};
 ghost use Rattle.compared.specs.Comparing.{Compares, IsCurrent};
-ghost use Rattle.compared.specs.Listing.{repo_fields, repo_lock_fields, retired_fields};
+ghost use Rattle.tables.specs.Listing.{repo_fields, repo_lock_fields, retired_fields};
 ghost use Rattle.compared.specs.Same.{AreSame};
 
 use crate::chunks::have_same_chunks;
-use crate::listed::Listed;
 use crate::rows::are_same;
 use std::alloc::Global;
+use store::Listed;
 use tables::StoreFault;
 
 /// Whether the rows of repositories are the same, in the same order.

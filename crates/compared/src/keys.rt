@@ -7,12 +7,12 @@ ghost use Rattle.std.specs.Ordering.{int_eq, is_lt};
 ghost use Rattle.tables.specs.Staging.{read_upload};
 ghost use Rattle.store.specs.Normal.{settled};
 ghost use Rattle.store.specs.Shown.{Reads};
-ghost use Rattle.compared.specs.Listing.{read_key};
+ghost use Rattle.tables.specs.Listing.{read_key};
 ghost use Rattle.compared.specs.Keys.{AreKeysInOrder, KeysRise, key_cmp};
 
-use crate::listed::{ChunkKey, Listed};
 use std::alloc::Global;
-use tables::{StoreFault, UploadRow};
+use store::Listed;
+use tables::{ChunkKey, StoreFault, UploadRow};
 
 /// Whether the chunk is of one of these uploads.
 fn is_of_any(key: &ChunkKey, uploads: &[UploadRow]) -> bool

@@ -6,7 +6,7 @@ use Rattle.store.specs.Shown.{HasTables, IsHonest}
 use Rattle.tables.specs.Rows.{Tables}
 use Rattle.compared.specs.Comparing.{ArePaired, Shows}
 use Rattle.compared.specs.Keys.{HasSameBytes, KeysRise}
-use Rattle.compared.specs.Listing.{read_key}
+use Rattle.tables.specs.Listing.{read_key}
 use Rattle.compared.proofs.Comparisons.{chunks_compared, chunks_differ}
 use Rattle.compared.proofs.Paired.{paired_at}
 use Rattle.compared.proofs.chunks.have_same_chunks.Goals as goal

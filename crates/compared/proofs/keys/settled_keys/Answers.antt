@@ -1,6 +1,6 @@
 use Rattle.std.proofs.Common.{rules, not, subst, IsPermutation}
 use Rattle.std.proofs.lemmas.Fn.{filter_same}
-use Rattle.compared.specs.Listing.{read_key}
+use Rattle.tables.specs.Listing.{read_key}
 use Rattle.compared.proofs.KeyCalls.{is_among, settled_in_order}
 use Rattle.compared.proofs.ReadCalls.{read_two}
 use Rattle.compared.proofs.keys.settled_keys.Goals as goal

@@ -3,4 +3,4 @@ use Rattle.compared.proofs.Paired.{ArePairedBelow}
 use Rattle.compared.proofs.rows.are_same.Given as goal
 
 abbrev pub invariant-loop-i : goal.invariant-loop-i
-invariant-loop-i g l = ArePairedBelow g.T.Row.has_same l.old l.new l.i
+invariant-loop-i g l = ArePairedBelow g.T.ListedRow.same_columns l.old l.new l.i
