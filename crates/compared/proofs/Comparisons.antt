@@ -1,5 +1,5 @@
 -- Two stores that are only read, and what is said of the tables of both.
-use Rattle.std.proofs.Common.{◌≡◌, ◌∙◌, ◌⊎◌, inl, inr, ℕ, ◌+◌, ◌<◌, suc, zero, pos, Bool, true, false, not, List, [], ◌∷◌, map, filter, find, length, slice_index_or, Option, option_map, Result, Ok, Err, IfOk, Vec, Global, IsPermutation, ◌≤◌, refl, sym, ap, ap₂, subst, arith, add-one}
+use Rattle.std.proofs.Common.{◌≡◌, ◌∙◌, ℕ, ◌+◌, ◌<◌, pos, Bool, true, false, not, List, [], map, filter, find, length, slice_index_or, Option, option_map, Result, Ok, Err, IfOk, Vec, Global, IsPermutation, ◌≤◌, refl, sym, ap, subst, arith}
 use Rattle.std.proofs.Math.Logic.{⊎_elim}
 use Rattle.std.specs.Bool.{Decides}
 use Rattle.std.specs.Ordering.{int_eq}
@@ -16,7 +16,7 @@ use Rattle.store.specs.declared.content.ChunkContent.{ChunkContent}
 use Rattle.store.specs.declared.state.State.{Ghosts}
 use Rattle.store.specs.Content.{content_bytes, IsContentOf}
 use Rattle.store.specs.Normal.{arranged, is_of_staged, settled}
-use Rattle.store.specs.Shown.{HasTables, IsHonest, IsOpen, Moves, AddsNothing, Reads, shown}
+use Rattle.store.specs.Shown.{HasTables, IsHonest, Reads, shown}
 use Rattle.store.proofs.Moved.{moves_none, moves_then, nothing_none, nothing_then}
 use Rattle.tables.specs.declared.rows.ChunkKey.{ChunkKey}
 use Rattle.tables.specs.declared.rows.MarkedUpload.{MarkedUpload}
@@ -131,17 +131,21 @@ module _ {S T : Type 0} (g : Ghosts S) (h : Ghosts T) where
 
     pub differs_here : (option_map content_bytes y ≡ option_map content_bytes x → ⊥)
         → IsHonest g c → IsHonest h w → HasTables g a → HasTables h u → (s t : Tables) → Shows g a s → Shows h u t → Decides false (AllByRecursion (HasSameBytes s t) (map read_key keys))
-    differs_here other honest honest₂ has has₂ s t shows shows₂ =
-        (λ e. absurd (true≢false (sym e)), λ all.
-        absurd (other (new_bytes honest₂ has₂ t shows₂
-        ∙ subst (HasSameBytes s t) (ap read_key (sym at_i)) (All-from_recursion (λ k. HasSameBytes s t (read_key k)) keys (all_unmap (HasSameBytes s t) read_key keys all) i key low)
-        ∙ sym (old_bytes honest has s shows))))
+    differs_here other honest honest₂ has has₂ s t shows shows₂ = (
+      λ e. absurd (true≢false (sym e)),
+      λ all.
+          absurd (other (new_bytes honest₂ has₂ t shows₂
+          ∙ subst (HasSameBytes s t) (ap read_key (sym at_i)) (All-from_recursion (λ k. HasSameBytes s t (read_key k)) keys (all_unmap (HasSameBytes s t) read_key keys all) i key low)
+          ∙ sym (old_bytes honest has s shows))),
+    )
 
   pub same_all : (keys : List ChunkKey) (n : ℕ) (a b : S) (u v : T) → length keys ≤ n → SameSoFar keys n a b u v
       → IsHonest g b → IsHonest h v → HasTables g a → HasTables h u → (s t : Tables) → Shows g a s → Shows h u t → Decides true (AllByRecursion (HasSameBytes s t) (map read_key keys))
-  same_all keys n a b u v end so_far honest honest₂ has has₂ s t shows shows₂ =
-      (λ _. all_map (HasSameBytes s t) read_key keys (recursion_from_All (λ k. HasSameBytes s t (read_key k)) keys
-      (λ k d less. so_far.same honest honest₂ has has₂ s t shows shows₂ k d (omega (arith, less, end)))), λ _. refl)
+  same_all keys n a b u v end so_far honest honest₂ has has₂ s t shows shows₂ = (
+    λ _. all_map (HasSameBytes s t) read_key keys (recursion_from_All (λ k. HasSameBytes s t (read_key k)) keys
+        (λ k d less. so_far.same honest honest₂ has has₂ s t shows shows₂ k d (omega (arith, less, end)))),
+    λ _. refl,
+  )
 
   -- ---- comparisons
 
@@ -179,7 +183,7 @@ module _ {S T : Type 0} (g : Ghosts S) (h : Ghosts T) where
         let first = p.answers before before₂ has has₂ in
         let second = q.answers honest honest₂ (p.both.old_same.ready has) (p.both.new_same.ready has₂) in
         let is = subst (λ s. Decides same (Q s (shown h u))) (p.both.old_same.shows before has second.0)
-            (subst (λ t. Decides same (Q (shown g b) t)) (p.both.new_same.shows before₂ has₂ second.1) second.2) in
+        (subst (λ t. Decides same (Q (shown g b) t)) (p.both.new_same.shows before₂ has₂ second.1) second.2) in
         (first.0, first.1, Decides-like same (λ q. (first.2.0 refl, q)) (λ both. both.1) is);
   }
 
@@ -207,9 +211,14 @@ module _ {S T : Type 0} (g : Ghosts S) (h : Ghosts T) where
           let sorted₂ = ap (λ (t : Tables). t.chunks) (has₂.ordered (q.same.was_honest honest₂) two.0) in (
             one.0,
             two.0,
-            (λ e. absurd (true≢false (sym e)), λ same.
-            absurd (other (keys_rise (shown g a) (shown h u) ours.items theirs.items sorted sorted₂ one.1 two.1 same,
-            keys_paired (shown g a) (shown h u) ours.items theirs.items sorted sorted₂ one.1 two.1 same))),
+            (
+              λ e. absurd (true≢false (sym e)),
+              λ same.
+                  absurd (other (
+                    keys_rise (shown g a) (shown h u) ours.items theirs.items sorted sorted₂ one.1 two.1 same,
+                    keys_paired (shown g a) (shown h u) ours.items theirs.items sorted sorted₂ one.1 two.1 same,
+                  )),
+            ),
           );
     }
 

@@ -1,5 +1,5 @@
 -- The keys that were read are those of the chunks, but for staged uploads, in order.
-use Rattle.std.proofs.Common.{pos, ◌≡◌, ◌∙◌, ◌||◌, ◌&&◌, ℕ, ℤ, ◌+◌, ◌<◌, suc, zero, Bool, true, false, not, cond, List, [], ◌∷◌, map, filter, find, length, slice_index_or, Some, is_some, MatchBool, Ordering, Less, Equal, Greater, is_lt, IsPermutation, IsSorted, refl, sym, ap, subst, arith, add-one}
+use Rattle.std.proofs.Common.{pos, ◌≡◌, ◌∙◌, ◌||◌, ◌&&◌, ℕ, ℤ, ◌+◌, ◌<◌, suc, zero, Bool, true, false, not, cond, List, [], ◌∷◌, map, filter, find, length, slice_index_or, Some, is_some, Ordering, Less, Equal, Greater, is_lt, IsPermutation, IsSorted, refl, sym, ap, subst, arith, add-one}
 use Rattle.std.specs.Bool.{Decides}
 use Rattle.std.specs.List.{list_any, AllByRecursion, AllAdjacentBelow, IsAllAdjacentAnswer}
 use Rattle.std.specs.List.Sorted.{IsSortedBy}
@@ -9,7 +9,6 @@ use Rattle.std.proofs.lemmas.Int.{ints}
 use Rattle.refinement.proofs.Orders.{sorted_map}
 use Rattle.std.proofs.lemmas.Bool.{true≢false}
 use Rattle.std.proofs.lemmas.List.Sorted.{IsPermutation-map, IsPermutation-sym, IsPermutation-trans}
-use Rattle.sqlite_trees.specs.Tree.{IsAscending}
 use Rattle.sqlite_keyed.proofs.ListLemmas.{all_weaker, filter-map, filter_same, IsPermutation-filter}
 use Rattle.tables.specs.Rows.{Chunk, Upload, Tables}
 use Rattle.tables.specs.Statements.{is_staged, is_staged_with, is_upload}

@@ -1,8 +1,8 @@
 -- Chunks in order: their keys, which rise, and the bytes of each, determine the list.
-use Rattle.std.proofs.Common.{◌≡◌, ◌≢◌, ◌∙◌, ◌⊎◌, inl, inr, ℕ, ℤ, ◌+◌, ◌<◌, pos, suc, zero, Bool, true, false, ◌&&◌, cond, List, [], ◌∷◌, map, filter, find, length, slice_index_or, Option, Some, None, option_map, is_some, Ordering, Less, Equal, Greater, is_lt, is_gt, IsPermutation, IsSorted, refl, sym, ap, ap₂, subst, arith, add-one}
+use Rattle.std.proofs.Common.{◌≡◌, ◌≢◌, ◌∙◌, ℕ, ℤ, pos, Bool, true, false, ◌&&◌, cond, List, [], ◌∷◌, map, filter, find, length, Option, Some, option_map, Ordering, Less, Equal, Greater, is_lt, is_gt, IsPermutation, IsSorted, refl, sym, ap, ap₂, subst, arith}
 use Rattle.std.specs.List.{AllByRecursion}
 use Rattle.std.specs.Cmp.{IsTotalOrder}
-use Rattle.std.specs.Ordering.{int_cmp, int_eq, ordering_then}
+use Rattle.std.specs.Ordering.{int_cmp, ordering_then}
 use Rattle.std.proofs.lemmas.Bool.{true≢false}
 use Rattle.std.proofs.lemmas.Bool.Decides.{Decides-int_eq}
 use Rattle.std.proofs.lemmas.Cmp.{int_cmp_total, int_ranked, on_total, then_total, tied_itself}
@@ -94,7 +94,7 @@ same_lists (c ∷ cs) (d ∷ ds) same up p q bytes =
     let more = tail_same (key_fields d) (key_fields c) (map key_fields ds) (map key_fields cs) same in
     let here = same_Some d.bytes c.bytes (sym (first_bytes d ds) ∙ ap (λ k. bytes_of_key k (d ∷ ds)) key ∙ bytes.0 ∙ first_bytes c cs) in
     let later = both_weaker (λ k. key_cmp (key_fields c) k ≡ Less) (λ k. bytes_of_key k (d ∷ ds) ≡ bytes_of_key k (c ∷ cs)) (λ k. bytes_of_key k ds ≡ bytes_of_key k cs)
-        (λ k less is. sym (skipped k d ds (ap (λ j. key_cmp j k) key ∙ less)) ∙ is ∙ skipped k c cs less) (map key_fields cs) up.0 bytes.1 in
+    (λ k less is. sym (skipped k d ds (ap (λ j. key_cmp j k) key ∙ less)) ∙ is ∙ skipped k c cs less) (map key_fields cs) up.0 bytes.1 in
     ap₂ (λ x l. x ∷ l) (chunk_same c d p.0 q.0 key here) (same_lists cs ds more up.1 p.1 q.1 later)
   where
     both_weaker : (P Q R : KeyFields → Type 0) → ((k : KeyFields) → P k → Q k → R k) → (ks : List KeyFields) → AllByRecursion P ks → AllByRecursion Q ks → AllByRecursion R ks

@@ -1,7 +1,6 @@
 -- Calls that only read, of one store and of two.
-use Rattle.std.proofs.Common.{◌≡◌, ◌∙◌, subst, Result, Ok, Err}
+use Rattle.std.proofs.Common.{subst, Ok}
 use Rattle.tables.specs.Rows.{Tables}
-use Rattle.tables.specs.declared.fault.StoreFault.{StoreFault}
 use Rattle.store.specs.declared.state.State.{Ghosts}
 use Rattle.store.specs.Shown.{Reads}
 use Rattle.store.proofs.Moved.{moves_then, nothing_then}

@@ -1,23 +1,23 @@
 -- Tables that are the same as others represent the world of the others.
-use Rattle.std.proofs.Common.{◌≡◌, ◌∙◌, ◌⊎◌, inl, inr, ℤ, ℕ, pos, Bool, true, false, not, ◌&&◌, cond, List, [], ◌∷◌, map, filter, find, Option, Some, None, option_map, unwrap_or, is_some, IsTrue, IsPermutation, AllPairs, length, arith, ◌<ℤ◌, refl, sym, ap, subst}
+use Rattle.std.proofs.Common.{◌≡◌, ◌∙◌, ◌⊎◌, inl, inr, ℤ, pos, Bool, true, false, not, ◌&&◌, cond, List, [], ◌∷◌, map, filter, find, Option, Some, None, option_map, unwrap_or, is_some, IsTrue, IsPermutation, AllPairs, length, arith, ◌<ℤ◌, refl, sym, ap, subst}
 use Rattle.std.specs.List.{AllByRecursion}
 use Rattle.std.specs.Ordering.{int_eq}
 use Rattle.std.proofs.lemmas.Int.{ints}
 use Rattle.std.proofs.lemmas.Bool.{true≢false}
-use Rattle.sqlite_keyed.proofs.ListLemmas.{map-map, map_back, all_of, all_both, all-filter, ascending-filter, filter_all, filter_none}
+use Rattle.sqlite_keyed.proofs.ListLemmas.{map-map, all_both, all-filter, ascending-filter, filter_all, filter_none}
 use Rattle.model.proofs.Lists.{each_passes, each_weaker}
 use Rattle.model.specs.World.{World, Object}
 use Rattle.tables.specs.Rows as row
 use Rattle.tables.specs.Rows.{Tables}
 use Rattle.tables.specs.Runs.{current_meta}
 use Rattle.tables.specs.Statements.{same_bytes, is_upload, is_complete, is_staged, is_staged_with}
-use Rattle.tables.specs.Steps.{TokenFields, token_fields, made_of, used_of}
+use Rattle.tables.specs.Steps.{TokenFields, token_fields}
 use Rattle.store.specs.Normal.{AreMarked, is_of_staged, settled}
 use Rattle.refinement.specs.Objects.{RepresentObjects, HasSize, DiffersInRepo, bytes_of, object_in}
-use Rattle.refinement.specs.Representation.{Represents, AreUnretired, lock_kept, lock_row, token_kept, token_row, retired_kept, retired_row}
+use Rattle.refinement.specs.Representation.{Represents, AreUnretired, lock_row, token_row, retired_row}
 use Rattle.refinement.proofs.Found.{find_map}
 use Rattle.refinement.proofs.Rearranged.{remains_represented}
-use Rattle.tables.specs.Listing.{RepoFields, RepoLockFields, RetiredFields, repo_fields, repo_lock_fields, retired_fields}
+use Rattle.tables.specs.Listing.{RepoLockFields, RetiredFields, repo_fields, repo_lock_fields, retired_fields}
 use Rattle.compared.specs.Same.{AreSame}
 
 -- ---- rows that are the same in the columns that are read

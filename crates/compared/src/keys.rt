@@ -18,7 +18,9 @@ use tables::{ChunkKey, StoreFault, UploadRow};
 fn is_of_any(key: &ChunkKey, uploads: &[UploadRow]) -> bool
     ensures { result ≡ list_any (λ u. int_eq (read_upload u).id (read_key key.now).upload) uploads.now }
 {
-    uploads.iter().any(|upload| upload.id.number() == key.upload.number())
+    uploads
+        .iter()
+        .any(|upload| upload.id.number() == key.upload.number())
 }
 
 /// Puts the keys into the order of uploads and numbers.

@@ -1,10 +1,10 @@
-use Rattle.std.proofs.Common.{◌≡◌, map, subst, sym, ap, false, ◌∙◌, IfOk}
+use Rattle.std.proofs.Common.{map, subst, sym, ◌∙◌, IfOk}
 use Rattle.std.specs.Bool.{Decides}
 use Rattle.std.specs.List.{AllByRecursion}
 use Rattle.std.proofs.lemmas.Bool.{true≢false}
 use Rattle.store.specs.Shown.{HasTables, IsHonest}
 use Rattle.tables.specs.Rows.{Tables}
-use Rattle.compared.specs.Comparing.{ArePaired, Shows}
+use Rattle.compared.specs.Comparing.{Shows}
 use Rattle.compared.specs.Keys.{HasSameBytes, KeysRise}
 use Rattle.tables.specs.Listing.{read_key}
 use Rattle.compared.proofs.Comparisons.{chunks_compared, chunks_differ}

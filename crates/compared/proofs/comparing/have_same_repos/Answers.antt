@@ -1,4 +1,3 @@
-use Rattle.std.proofs.Common.{sym}
 use Rattle.tables.specs.Listing.{read_repo}
 use Rattle.compared.proofs.Comparisons.{compared, rows_decided}
 use Rattle.compared.proofs.comparing.have_same_repos.Goals as goal

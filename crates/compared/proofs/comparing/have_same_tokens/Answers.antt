@@ -1,4 +1,3 @@
-use Rattle.std.proofs.Common.{sym}
 use Rattle.tables.specs.Steps.{read_token}
 use Rattle.compared.proofs.Comparisons.{compared, rows_decided}
 use Rattle.compared.proofs.comparing.have_same_tokens.Goals as goal

@@ -1,5 +1,3 @@
-use Rattle.std.proofs.Common.{map, subst, sym, IsPermutation}
-use Rattle.tables.specs.Listing.{read_key, key_fields}
 use Rattle.compared.proofs.KeyCalls.{keys_in_order}
 use Rattle.compared.proofs.ReadCalls.{read_one}
 use Rattle.compared.proofs.keys.all_keys.Goals as goal

@@ -1,4 +1,4 @@
-use Rattle.std.proofs.Common.{rules, not, subst, IsPermutation}
+use Rattle.std.proofs.Common.{rules, not}
 use Rattle.std.proofs.lemmas.Fn.{filter_same}
 use Rattle.tables.specs.Listing.{read_key}
 use Rattle.compared.proofs.KeyCalls.{is_among, settled_in_order}
