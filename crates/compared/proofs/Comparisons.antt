@@ -23,7 +23,7 @@ use Rattle.tables.specs.declared.rows.MarkedUpload.{MarkedUpload}
 use Rattle.tables.specs.Listing.{AreMarkedOf, KeyFields, MarkedFields, key_fields, mark_of, marked_fields, read_key, read_marked}
 use Rattle.compared.specs.Keys.{AreKeysInOrder, HasSameBytes, KeysRise, bytes_at}
 use Rattle.compared.specs.Same.{HaveSameChunks}
-use Rattle.compared.specs.Comparing.{ArePaired, Compares, ReadsBoth, Shows}
+use Rattle.compared.specs.Comparing.{ArePaired, Compares, ReadsBoth, ShowsIfOpen}
 use Rattle.compared.proofs.KeyLists.{bytes_from_same, keys_from_same, rise_from_same, same_from_keys}
 use Rattle.compared.proofs.Paired.{maps_from_paired, paired_from_maps}
 
@@ -75,12 +75,6 @@ module _ {S T : Type 0} (g : Ghosts S) (h : Ghosts T) where
     new_adds = nothing_then h u v w p.new_adds q.new_adds;
   }
 
-  pub both_old : {X : Type 0} (a b : S) (u : T) (r : Result X StoreFault) (P : Tables → X → Type 0) → Reads g a b r P → ReadsBoth g h a b u u
-  both_old a b u r P p = record { old_same = p.same; old_adds = p.adds; new_same = moves_none h u; new_adds = nothing_none h u }
-
-  pub both_new : {X : Type 0} (a : S) (u v : T) (r : Result X StoreFault) (P : Tables → X → Type 0) → Reads h u v r P → ReadsBoth g h a a u v
-  both_new a u v r P p = record { old_same = moves_none g a; old_adds = nothing_none g a; new_same = p.same; new_adds = p.adds }
-
   pub both_read : {X Y : Type 0} (a b : S) (u v : T) (r : Result X StoreFault) (q : Result Y StoreFault) (P : Tables → X → Type 0) (Q : Tables → Y → Type 0)
       → Reads g a b r P → Reads h u v q Q → ReadsBoth g h a b u v
   both_read a b u v r q P Q p k = record { old_same = p.same; old_adds = p.adds; new_same = k.same; new_adds = k.adds }
@@ -93,22 +87,19 @@ module _ {S T : Type 0} (g : Ghosts S) (h : Ghosts T) where
   -- the chunks of the first n keys have the same bytes
   pub record SameSoFar (keys : List ChunkKey) (n : ℕ) (a b : S) (u v : T) : Type 0 where
     pub both : ReadsBoth g h a b u v
-    pub same : IsHonest g b → IsHonest h v → HasTables g a → HasTables h u → (s t : Tables) → Shows g a s → Shows h u t
+    pub same : IsHonest g b → IsHonest h v → HasTables g a → HasTables h u → (s t : Tables) → ShowsIfOpen g a s → ShowsIfOpen h u t
         → (k : ℕ) (d : ChunkKey) → k < n → HasSameBytes s t (read_key (slice_index_or keys k d))
-
-  pub same_none : (keys : List ChunkKey) (a : S) (u : T) → SameSoFar keys 0 a a u u
-  same_none keys a u = record { both = both_none a u; same = λ _ _ _ _ _ _ _ _ k d less. absurd (omega (arith, less)) }
 
   module _ (keys : List ChunkKey) (i : ℕ) (key : ChunkKey) (a b c : S) (u v w : T) (x y : Option ChunkContent) (low : i < length keys) (at_i : key ≡ slice_index_or keys i key)
       (so_far : SameSoFar keys i a b u v) (ours : Reads g b c (Ok x) (HasChunk key)) (theirs : Reads h v w (Ok y) (HasChunk key)) where
-    old_bytes : IsHonest g c → HasTables g a → (s : Tables) → Shows g a s → option_map content_bytes x ≡ bytes_at (read_key key) s
+    old_bytes : IsHonest g c → HasTables g a → (s : Tables) → ShowsIfOpen g a s → option_map content_bytes x ≡ bytes_at (read_key key) s
     old_bytes honest has s shows =
         let m = so_far.both.old_same in
         let before = ours.same.was_honest honest in
         let is = ours.answers honest (m.ready has) in
         subst (λ t. HasChunk key t x) (m.shows before has is.0 ∙ shows (m.was_open before is.0)) is.1
 
-    new_bytes : IsHonest h w → HasTables h u → (t : Tables) → Shows h u t → option_map content_bytes y ≡ bytes_at (read_key key) t
+    new_bytes : IsHonest h w → HasTables h u → (t : Tables) → ShowsIfOpen h u t → option_map content_bytes y ≡ bytes_at (read_key key) t
     new_bytes honest has t shows =
         let m = so_far.both.new_same in
         let before = theirs.same.was_honest honest in
@@ -130,7 +121,7 @@ module _ {S T : Type 0} (g : Ghosts S) (h : Ghosts T) where
     }
 
     pub differs_here : (option_map content_bytes y ≡ option_map content_bytes x → ⊥)
-        → IsHonest g c → IsHonest h w → HasTables g a → HasTables h u → (s t : Tables) → Shows g a s → Shows h u t → Decides false (AllByRecursion (HasSameBytes s t) (map read_key keys))
+        → IsHonest g c → IsHonest h w → HasTables g a → HasTables h u → (s t : Tables) → ShowsIfOpen g a s → ShowsIfOpen h u t → Decides false (AllByRecursion (HasSameBytes s t) (map read_key keys))
     differs_here other honest honest₂ has has₂ s t shows shows₂ = (
       λ e. absurd (true≢false (sym e)),
       λ all.
@@ -140,7 +131,7 @@ module _ {S T : Type 0} (g : Ghosts S) (h : Ghosts T) where
     )
 
   pub same_all : (keys : List ChunkKey) (n : ℕ) (a b : S) (u v : T) → length keys ≤ n → SameSoFar keys n a b u v
-      → IsHonest g b → IsHonest h v → HasTables g a → HasTables h u → (s t : Tables) → Shows g a s → Shows h u t → Decides true (AllByRecursion (HasSameBytes s t) (map read_key keys))
+      → IsHonest g b → IsHonest h v → HasTables g a → HasTables h u → (s t : Tables) → ShowsIfOpen g a s → ShowsIfOpen h u t → Decides true (AllByRecursion (HasSameBytes s t) (map read_key keys))
   same_all keys n a b u v end so_far honest honest₂ has has₂ s t shows shows₂ = (
     λ _. all_map (HasSameBytes s t) read_key keys (recursion_from_All (λ k. HasSameBytes s t (read_key k)) keys
         (λ k d less. so_far.same honest honest₂ has has₂ s t shows shows₂ k d (omega (arith, less, end)))),
@@ -156,19 +147,6 @@ module _ {S T : Type 0} (g : Ghosts S) (h : Ghosts T) where
   compares_like a b u v (Ok same) P Q f back p = record {
     both = p.both;
     answers = λ honest honest₂ has has₂. let is = p.answers honest honest₂ has has₂ in (is.0, is.1, Decides-like same (f _ _) (back _ _) is.2);
-  }
-
-  -- what fails says nothing
-  pub compares_err : (a b : S) (u v : T) (e : StoreFault) (P Q : Tables → Tables → Type 0) → Compares g h a b u v (Err e) P → Compares g h a b u v (Err e) Q
-  compares_err a b u v e P Q p = record { both = p.both; answers = λ _ _ _ _. tt }
-
-  -- what is not so is not so with more
-  pub compares_not : (a b : S) (u v : T) (P Q : Tables → Tables → Type 0) → ((s t : Tables) → Q s t → P s t) → Compares g h a b u v (Ok false) P → Compares g h a b u v (Ok false) Q
-  compares_not a b u v P Q weaker p = record {
-    both = p.both;
-    answers = λ honest honest₂ has has₂.
-        let is = p.answers honest honest₂ has has₂ in
-        (is.0, is.1, (λ e. absurd (true≢false (sym e)), λ q. is.2.1 (weaker _ _ q)));
   }
 
   -- one comparison after another that found nothing
@@ -223,7 +201,7 @@ module _ {S T : Type 0} (g : Ghosts S) (h : Ghosts T) where
     }
 
     pub chunks_compared : (c : S) (w : T) (r : Result Bool StoreFault) → KeysRise (map read_key ours.items) → ArePaired (λ a b. read_key a ≡ read_key b) ours.items theirs.items → ReadsBoth g h b c v w
-        → IfOk r (λ same. IsHonest g c → IsHonest h w → HasTables g b → HasTables h v → (s t : Tables) → Shows g b s → Shows h v t → Decides same (AllByRecursion (HasSameBytes s t) (map read_key ours.items)))
+        → IfOk r (λ same. IsHonest g c → IsHonest h w → HasTables g b → HasTables h v → (s t : Tables) → ShowsIfOpen g b s → ShowsIfOpen h v t → Decides same (AllByRecursion (HasSameBytes s t) (map read_key ours.items)))
         → Compares g h a c u w r HaveSameChunks
     chunks_compared c w (Err e) up paired both bytes = record { both = both_then a b c u v w (both_read a b u v (Ok ours) (Ok theirs) _ _ p q) both; answers = λ _ _ _ _. tt }
     chunks_compared c w (Ok same) up paired both bytes = record {

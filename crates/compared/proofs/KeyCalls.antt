@@ -85,9 +85,6 @@ settled_in_order rows found kept sorted t is moved up are all =
 abbrev pub is_before : ChunkKey → ChunkKey → Bool
 is_before a b = is_lt (key_cmp (read_key a) (read_key b))
 
-abbrev Before : ChunkKey → ChunkKey → Type 0
-Before a b = key_cmp (read_key a) (read_key b) ≡ Less
-
 less_from : (o : Ordering) → is_lt o ≡ true → o ≡ Less
 less_from Less e = refl
 less_from Equal e = absurd (true≢false (sym e))

@@ -43,9 +43,6 @@ module _ {S T : Type 0} (g : Ghosts S) (h : Ghosts T) where
   pub passed : (a b : S) (u v : T) (same : Bool) (P : Tables → Tables → Type 0) → same ≡ true → Compares g h a b u v (Ok same) P → Compares g h a b u v (Ok true) P
   passed a b u v same P is p = subst (λ (x : Bool). Compares g h a b u v (Ok x) P) is p
 
-  pub failed : (a b : S) (u v : T) (same : Bool) (P : Tables → Tables → Type 0) → same ≡ false → Compares g h a b u v (Ok same) P → Compares g h a b u v (Ok false) P
-  failed a b u v same P is p = subst (λ (x : Bool). Compares g h a b u v (Ok x) P) is p
-
   pub same_holds : (a c : S) (u w : T) (r : Result Bool StoreFault) → Compares g h a c u w r AreSame → r ≡ Ok true → IsHonest g c → IsHonest h w → HasTables h u → IsCurrent h u
       → (world : World) → Holds g a world → Holds h w world
   same_holds a c u w r compares ok honest honest₂ has₂ current world holds =

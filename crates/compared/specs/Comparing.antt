@@ -13,8 +13,8 @@ pub record ArePaired {X : Type 0} (R : X → X → Type 0) (xs ys : List X) : Ty
   pub each : (i : ℕ) (d e : X) → i < length xs → R (slice_index_or xs i d) (slice_index_or ys i e)
 
 -- while the store is open, it shows these tables
-abbrev pub Shows : {S : Type 0} → Ghosts S → S → Tables → Type 0
-Shows g s t = IsOpen g s → shown g s ≡ t
+abbrev pub ShowsIfOpen : {S : Type 0} → Ghosts S → S → Tables → Type 0
+ShowsIfOpen g s t = IsOpen g s → shown g s ≡ t
 
 -- while the store is honest and open, its row of `meta` is that of the current version
 abbrev pub IsCurrent : {S : Type 0} → Ghosts S → S → Type 0

@@ -6,7 +6,7 @@ ghost use Rattle.std.specs.List.{AllByRecursion};
 ghost use Rattle.tables.specs.Rows.{Tables};
 ghost use Rattle.store.specs.Content.{content_bytes};
 ghost use Rattle.store.specs.Shown.{HasTables, IsHonest};
-ghost use Rattle.compared.specs.Comparing.{Compares, ReadsBoth, Shows};
+ghost use Rattle.compared.specs.Comparing.{Compares, ReadsBoth, ShowsIfOpen};
 ghost use Rattle.compared.specs.Keys.{HasSameBytes};
 ghost use Rattle.tables.specs.Listing.{read_key};
 ghost use Rattle.compared.specs.Same.{HaveSameChunks};
@@ -41,7 +41,7 @@ fn have_same_bytes<A: Store, B: Store>(
     ensures both { ReadsBoth A.State B.State old.old old.new new.old new.new }
     ensures same { IfOk result (λ same. IsHonest A.State old.new → IsHonest B.State new.new
         → HasTables A.State old.old → HasTables B.State new.old
-        → (t u : Tables) → Shows A.State old.old t → Shows B.State new.old u
+        → (t u : Tables) → ShowsIfOpen A.State old.old t → ShowsIfOpen B.State new.old u
         → Decides same (AllByRecursion (HasSameBytes t u) (map read_key keys.now))) }
 {
     for key in keys {

@@ -4,7 +4,7 @@ use Rattle.std.specs.List.{AllByRecursion}
 use Rattle.std.proofs.lemmas.Bool.{true≢false}
 use Rattle.store.specs.Shown.{HasTables, IsHonest}
 use Rattle.tables.specs.Rows.{Tables}
-use Rattle.compared.specs.Comparing.{Shows}
+use Rattle.compared.specs.Comparing.{ShowsIfOpen}
 use Rattle.compared.specs.Keys.{HasSameBytes, KeysRise}
 use Rattle.tables.specs.Listing.{read_key}
 use Rattle.compared.proofs.Comparisons.{chunks_compared, chunks_differ}
@@ -29,5 +29,5 @@ returns g c =
     (paired_at _ _ _ _ _ c.deref-2.ensures.value c.deref-3.ensures.value (c.are_same.ensures.0 c.if-not-are_same.false))
     c.have_same_bytes.ensures.both
     (subst (λ l. IfOk c.have_same_bytes.result (λ same. IsHonest g.A.State c.have_same_bytes.new.old → IsHonest g.B.State c.have_same_bytes.new.new
-    → HasTables g.A.State c.settled_keys.new.store → HasTables g.B.State c.all_keys.new.store → (s t : Tables) → Shows g.A.State c.settled_keys.new.store s
-    → Shows g.B.State c.all_keys.new.store t → Decides same (AllByRecursion (HasSameBytes s t) (map read_key l)))) c.deref-4.ensures.value c.have_same_bytes.ensures.same)
+    → HasTables g.A.State c.settled_keys.new.store → HasTables g.B.State c.all_keys.new.store → (s t : Tables) → ShowsIfOpen g.A.State c.settled_keys.new.store s
+    → ShowsIfOpen g.B.State c.all_keys.new.store t → Decides same (AllByRecursion (HasSameBytes s t) (map read_key l)))) c.deref-4.ensures.value c.have_same_bytes.ensures.same)
