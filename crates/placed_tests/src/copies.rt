@@ -2,6 +2,7 @@
 
 use crate::beside_rows::{HERO, begun, has, stored};
 use crate::harness::{Tester, in_memory, lock_path, moment, oid, ref_name, repo, unwrap, user};
+use compared::is_same;
 use names::Operation;
 use sqlite::MemStore;
 use store::{Listed, Restored, Store};
@@ -126,6 +127,11 @@ fn copy_objects(rt: &impl Tester, from: &mut impl Listed, to: &mut impl Restored
     }
 }
 
+/// Asserts whether the two are the same.
+fn expect_same(rt: &impl Tester, from: &mut impl Listed, to: &mut impl Listed, same: bool) {
+    assert!(rt; unwrap(rt, is_same(rt.alloc(), from, to)) == same);
+}
+
 /// Asserts that the store has what was copied.
 fn expect_copied(rt: &impl Tester, store: &mut impl Listed, id: UploadId) {
     let (film, game) = (repo(rt, FILM), repo(rt, GAME));
@@ -161,7 +167,9 @@ fn a_copy_has_all_but_what_is_staged(rt: HostRuntime) {
     let id = fill(&rt, &mut from);
     let mut to = in_memory(&rt);
     copy_small(&rt, &mut from, &mut to);
+    expect_same(&rt, &mut from, &mut to, false);
     copy_objects(&rt, &mut from, &mut to);
+    expect_same(&rt, &mut from, &mut to, true);
     expect_copied(&rt, &mut to, id);
     assert_eq!(rt;
         unwrap(&rt, Listed::all_uploads(&mut from, rt.alloc())).len(),
