@@ -41,7 +41,7 @@ documents=$root/usr/share/doc/custody
 mkdir -p "$documents/examples" "$root/usr/share/man/man1"
 install -D -m 755 "$program" "$root/usr/bin/custody"
 strip --remove-section=.comment --remove-section=.note "$root/usr/bin/custody"
-for name in custody-user forced-command pre-receive backup spare unlock unreferenced mirror; do
+for name in custody-user forced-command pre-receive backup restore spare unlock unreferenced mirror; do
     install -D -m 755 -t "$root/usr/lib/custody" "$top/deploy/programs/$name"
 done
 install -D -m 644 "$top/deploy/web/locks.html" "$root/usr/share/custody/locks.html"
@@ -104,6 +104,21 @@ changes | gzip -9 -n > "$documents/changelog.gz"
   leave the database as it is. There is no way back but the copy: an earlier
   package cannot read a database of version 2. Upgrading, in
   /usr/share/doc/custody/operating/backup.md, has the commands.
+
+  The unit starts the server with --contents: a database that does not exist yet
+  is made with a file beside it, custody.db-contents, which has the contents of
+  objects of 64 KiB and more. A start then reads only the rows, and takes the
+  memory of those, however much is stored. An installed database stays as it is.
+  To move it, stop the server, run, as the user custody,
+
+      custody migrate --contents --db /var/lib/custody/db/custody.db
+
+  and start the server. The disk needs room for both forms meanwhile. The command
+  may be killed at any moment, and goes on when it is run again; it compares all
+  before the new files take the names of the old ones. "custody migrate --chunks"
+  moves the database back. The file of contents is a part of the database: copy
+  and move it with the others. /usr/lib/custody/backup does, and
+  /usr/lib/custody/restore puts a copy back. Both need python3.
 
   The policy that the package installs is empty. If you changed
   /etc/custody/policy.toml, dpkg asks which one to take: keep yours, which is the

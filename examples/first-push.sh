@@ -40,8 +40,8 @@ trap 'exit 143' TERM
 serve_at() {
     sed "s|https://lfs.example|http://127.0.0.1:$1|" "$top/examples/policy.toml" > "$work/policy.toml"
     : > "$work/server.log"
-    "$work/bin/custody" serve --db "$work/custody.db" --policy "$work/policy.toml" --listen "127.0.0.1:$1" \
-        --control "$work/run/control" > "$work/server.log" 2>&1 &
+    "$work/bin/custody" serve --db "$work/custody.db" --contents --policy "$work/policy.toml" \
+        --listen "127.0.0.1:$1" --control "$work/run/control" > "$work/server.log" 2>&1 &
     server=$!
     while kill -0 "$server" 2> /dev/null; do
         ! grep -q '^listening' "$work/server.log" || return 0

@@ -3,7 +3,6 @@
 Each check starts a server on a new database and a free port of this machine, and reads the database with the command
 sqlite3 from a copy, while the server is killed. What an object has to be is what the check has made it of.
 """
-import os
 import random
 import signal
 import sqlite3
@@ -12,31 +11,17 @@ import sys
 import time
 from pathlib import Path
 
-from tests.studio.checks import TOP, arguments, judge_on_server, require, within
+from tests.studio.checks import arguments, judge_on_server, require, within
+from tests.studio.control import ControlledServer
 from tests.studio.policy import FILM, open_policy
-from tests.studio.program import CHUNK, Server, content, free_port, message, name_of, put
-from tests.studio.tables import read_copy
+from tests.studio.program import CHUNK, content, free_port, made, message, name_of, put
+from tests.studio.tables import PLACE, read_copy
 
-# The number of a row that says where a content is.
-PLACE = 4_294_967_295
 SIZES = [0, 1, CHUNK - 1, CHUNK, CHUNK + 1, 3 * CHUNK, 10 << 20]
 
 
-class BesideServer(Server):
+class BesideServer(ControlledServer):
     """A server whose database was made with a file of contents."""
-
-    def contents(self):
-        """The file of contents."""
-        return Path(f"{self.database}-contents")
-
-    def issue(self, letter, *more, **named):
-        """Stores a token. The first command over these files makes them."""
-        if not Path(self.database).exists():
-            words = [self.program, "serve", *self.files(), "--listen", f"127.0.0.1:{free_port()}", "--contents"]
-            with subprocess.Popen(words, stdout=subprocess.PIPE) as child:
-                child.stdout.readline()
-                child.kill()
-        super().issue(letter, *more, **named)
 
     def get(self, oid):
         """The reply to a download."""
@@ -55,11 +40,6 @@ class BesideServer(Server):
         status, output, errors = self.over_files(*name, "--explain")
         require((status, output) == (1, ""), f"{name} ended with {status} and printed {output!r}")
         return errors
-
-
-def made(seed, size):
-    """Bytes of an object."""
-    return random.Random(seed).randbytes(size)
 
 
 def check_sizes(server, _):
@@ -143,6 +123,22 @@ def check_room(server, _):
     return f"{size} bytes served three objects of 1 MiB, and then none"
 
 
+def check_filled(server, _):
+    """`usage` and `status` say how the file is filled: two contents are kept, and one between them was removed."""
+    kept, gone, last = sizes = (100_000, 200_000, 300_000)
+    for size in sizes:
+        require(server.put(made(size, size)) == 200, "an upload was refused")
+    require(server.via("retire", "--repo", FILM, name_of(made(gone, gone)))[0] == 0, "retire failed")
+    status, printed, _ = server.via("usage")
+    line = f"contents: {kept + last} kept, {gone} free, {sum(sizes)} in the file"
+    require(status == 0 and printed.splitlines()[-1] == line, f"usage gave {status}, {printed!r}")
+    status, printed, _ = server.via("status")
+    lines = {f'custody_contents_bytes{{state="kept"}} {kept + last}', f'custody_contents_bytes{{state="free"}} {gone}',
+             f'custody_database_bytes{{file="contents"}} {sum(sizes)}'}
+    require(status == 0 and lines <= set(printed.splitlines()), f"status gave {status}, {printed!r}")
+    return line
+
+
 def check_missing(server, _):
     """A file of contents that is missing, or shorter than the database says, is reported and never made anew."""
     data = made(1, 200_000)
@@ -198,22 +194,23 @@ def check_spoiled(server, _):
     return "one byte of five objects was changed: check named one, and it was pushed again"
 
 
-def check_backup(server, options):
-    """A copy that deploy/programs/backup makes of a running server has the contents."""
-    objects = [made(number, 1 << 20) for number in range(3)]
-    for data in objects:
-        require(server.put(data) == 200, "an upload was refused")
-    copies = Path(f"{server.room}/copies")
-    copies.mkdir()
-    words = [TOP / "deploy/programs/backup", server.control(), server.database, copies]
-    ran = subprocess.run(words, env={**os.environ, "CUSTODY": options.program}, capture_output=True, text=True,
-                         check=False, timeout=60)
-    require(ran.returncode == 0 and "checked 3 objects" in ran.stdout, f"it ended with {ran.returncode}, {ran.stderr}")
-    copied = {path.name for path in next(copies.iterdir()).iterdir()}
-    name = Path(server.database).name
-    require(copied == {name, f"{name}-wal", f"{name}-contents"}, f"the copy has {copied}")
-    require(all(server.has(data) for data in objects), "an object differs")
-    return "a copy of three objects of 1 MiB is whole"
+def check_sync(server, _):
+    """A sync of the file that fails ends the server, and the next one has what was stored before."""
+    first, second = made(1, 200_000), made(2, 200_000)
+    require(server.put(first) == 200, "an upload was refused")
+    words = ["strace", "-f", "-P", server.contents(), "-e", "trace=fdatasync,fsync", "-e",
+             "inject=fdatasync,fsync:error=EIO:when=1", "-o", "/dev/null", "-p", str(server.child.pid)]
+    with subprocess.Popen(words, stderr=subprocess.PIPE) as tracer:
+        require(b"attached" in tracer.stderr.readline(), "strace does not trace the server")
+        reply = server.ask(put(second))
+        require(reply == (500, b'{"message":"S1: the store refused"}'), f"after the sync an upload got {reply}")
+        status = server.child.wait(timeout=10)
+    is_right = status == 1 and server.errors().endswith("custody: store G2\n")
+    require(is_right, f"the server ended with {status}, {server.errors()!r}")
+    server.start()
+    require(server.has(first) and server.get(name_of(second))[0] == 404, "the server has other objects than before")
+    require(server.put(second) == 200 and server.has(second), "the object was not stored again")
+    return "S1 and then store G2 after a sync that failed; the next server has what was stored before"
 
 
 def fill(path, count, size):
@@ -251,10 +248,11 @@ CHECKS = {
     "sizes": check_sizes,
     "killed": check_killed,
     "room": check_room,
+    "filled": check_filled,
     "missing": check_missing,
     "not-empty": check_not_empty,
     "spoiled": check_spoiled,
-    "backup": check_backup,
+    "sync": check_sync,
     "start": check_start,
 }
 
@@ -267,8 +265,7 @@ def main():
     parser.add_argument("--seconds", type=float, default=5, help="the bound of a start [default: %(default)s]")
     options = parser.parse_args()
     policy = open_policy(["ann"], (FILM,))
-    return judge_on_server(CHECKS, options, lambda program, room: BesideServer(
-        program, room, policy, more=("--control", f"{room}/control")))
+    return judge_on_server(CHECKS, options, lambda program, room: BesideServer(program, room, policy, form="file"))
 
 
 if __name__ == "__main__":

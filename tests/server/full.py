@@ -22,8 +22,9 @@ import threading
 import time
 from pathlib import Path
 
-from tests.studio.checks import arguments, judge_each, require
+from tests.studio.checks import arguments, judge_forms, require
 from tests.studio.control import ControlledServer, issue_words
+from tests.studio.program import FORMS
 from tests.studio.tables import read_copy
 from tests.studio.work import REMOVALS, WRITES, Killed, Work, compare_all
 
@@ -31,6 +32,8 @@ MIB = 1 << 20
 SIZE = 48 * MIB
 # This many refusals one after the other mean that the disk is full.
 ROW = 12
+# A database with a file of contents has a short log, which grows to this size before it is used again.
+LOG = 4 * MIB
 # This many tokens are more than the rest of a page and of the log has room for.
 COMMANDS = 1000
 # How a connection may end; of the last two the server reports the cause.
@@ -38,6 +41,9 @@ STATED = ["ReadFailed", "WriteFailed", "StoreRefused", "StoreFailed"]
 REPORTED = STATED[2:]
 # What the server prints at its start.
 START = [r"policy ok: 1 repositories, 1 rows", r"reading .*/custody\.db \(\d+(\.\d)? [KM]B\)"]
+# The cause that a report has to name, and the one that fails the check at its end, when all else was compared.
+FULL = "the disk is full: make room, then push again"
+OTHER = "the disk has room now: it was full, memory ran out, or the disk failed (see dmesg)"
 # How long there is no report after one, in seconds, and how much of it a busy machine may take to hand a line over.
 PAUSE, DELAY = 1, 0.2
 
@@ -85,9 +91,9 @@ class Stream:
 class DiskServer(ControlledServer):
     """A server whose database is in the folder `disk` of its folder, and whose error streams are kept."""
 
-    def __init__(self, program, room):
+    def __init__(self, program, room, form):
         self.streams = []
-        super().__init__(program, room, more=["--explain"], database="disk/custody.db")
+        super().__init__(program, room, more=["--explain"], database="disk/custody.db", form=form)
 
     def error_stream(self):
         """A new stream."""
@@ -137,10 +143,10 @@ def check_rows(work):
     work.server.start()
 
 
-def report_line(server, count):
+def report_line(server, count, cause=FULL):
     """The line about the cause of this many refusals."""
     requests = "1 request was" if count == 1 else f"{count} requests were"
-    return f"custody: {requests} refused: {server.database}: the disk is full: make room, then push again"
+    return f"custody: {requests} refused: {server.database}: {cause}"
 
 
 def check_start(server, lines):
@@ -151,8 +157,9 @@ def check_start(server, lines):
     found, waiting, last = collections.Counter(), [], -math.inf
     for moment, line in rest:
         name = re.sub(r"^custody: connection \d+ ", "", line)
-        if line == report_line(server, len(waiting)):
+        if line in (report_line(server, len(waiting)), report_line(server, len(waiting), OTHER)):
             require(moment - last > PAUSE - DELAY, f"two reports within {moment - last:.2f} s")
+            found["other causes"] += line.endswith(OTHER)
             name, waiting, last = "reports", [], moment
         elif name in REPORTED:
             waiting.append(moment)
@@ -205,19 +212,22 @@ def play(work, names, left, is_killed):
     check_rows(work)
 
 
-def check(names, left, options):
-    """The rounds of one way to fill the disk."""
+def check(names, left, form, options):
+    """The rounds of one way to fill the disk, with databases of one form."""
     done, refused, errors, begun = collections.Counter(), collections.Counter(), collections.Counter(), time.monotonic()
-    rounds = -(-options.rounds // len(CHECKS))
+    rounds = -(-options.rounds // len(CHECKS) // len(options.form or FORMS))
     for number in range(rounds):
         with tempfile.TemporaryDirectory() as room, small_disk(f"{room}/disk", SIZE):
-            with DiskServer(options.program, room) as server:
+            with DiskServer(options.program, room, form) as server:
                 work = Work(server, random.random())
-                play(work, names, left, number % 2 == 1)
+                play(work, names, left + LOG * (form == "file"), number % 2 == 1)
                 done, refused, errors = done + work.done, refused + work.refused, errors + check_errors(server)
     counted = [", ".join(f"{it[name]} {name}" for name in sorted(it)) for it in (done, refused, errors)]
-    return (f"{rounds} rounds, {rounds // 2} kills, {time.monotonic() - begun:.0f} s; granted: {counted[0]}; "
+    text = (f"{rounds} rounds, {rounds // 2} kills, {time.monotonic() - begun:.0f} s; granted: {counted[0]}; "
             f"refused: {counted[1]}; the server printed {counted[2]}")
+    # The room of an upload into a file of contents is given back before the cause is looked for.
+    require(form == "file" or not errors["other causes"], f"a report names another cause than the full disk; {text}")
+    return text
 
 
 # What fills the disk, and how much room is left for it at most: a lock takes 213 bytes, and a token 130.
@@ -231,10 +241,10 @@ CHECKS = {
 
 def main():
     """Runs the checks."""
-    parser = arguments(__doc__, CHECKS)
+    parser = arguments(__doc__, CHECKS, forms=True)
     parser.add_argument("--rounds", type=int, default=20, help="how often a disk is filled, by all checks together")
     options = parser.parse_args()
-    return judge_each(CHECKS, options, lambda name: check(*CHECKS[name], options))
+    return judge_forms(CHECKS, options, lambda name, form: check(*CHECKS[name], form, options))
 
 
 if __name__ == "__main__":

@@ -5,7 +5,7 @@ without a pause: a batch with an upload and its verification, a batch with a dow
 verified and released. 200 of them use nginx with deploy/nginx/site, over TLS and one connection each; 50 use the server
 itself, with a connection for each push, pull or lock. Every reply has to be the right one, and the memory of the server
 may not grow: its highest in the last fifth of the time is at most 8 MiB more than in the second fifth. No connection
-may break off.
+may break off. Each check is tried over a database of each form.
 
 Each check prints one line: the requests, those that were refused with the status, the waits, the memory, how far the
 queue of the server's port was filled, and the kernel's counters of connections that found it full, which count those
@@ -22,7 +22,7 @@ import tempfile
 import time
 from pathlib import Path
 
-from tests.studio.checks import Checks, arguments, beside, judge_each, require
+from tests.studio.checks import Checks, arguments, beside, judge_forms, require
 from tests.studio.policy import WORK, row
 from tests.studio.program import memory_of, name_of, target
 from tests.studio.site import Site, connection_to
@@ -243,9 +243,9 @@ def report(site, found, watch):
     return text
 
 
-def check(options, count, with_proxy):
+def check(options, form, count, with_proxy):
     """Many clients for the time that is asked for."""
-    with tempfile.TemporaryDirectory() as room, Site(options.program, room, ROWS, Checks()) as site:
+    with tempfile.TemporaryDirectory() as room, Site(options.program, room, ROWS, Checks(), form=form) as site:
         if with_proxy:
             site.start_nginx()
         port, certificate = (site.https, site.certificate) if with_proxy else (site.server.port, None)
@@ -262,11 +262,11 @@ CHECKS = {
 
 def main():
     """Runs the suite."""
-    parser = arguments(__doc__, CHECKS)
+    parser = arguments(__doc__, CHECKS, forms=True)
     parser.add_argument("--seconds", type=int, default=60, help="for how long, each check")
     options = parser.parse_args()
     multiprocessing.set_start_method("fork")
-    return judge_each(CHECKS, options, lambda name: check(options, *CHECKS[name]))
+    return judge_forms(CHECKS, options, lambda name, form: check(options, form, *CHECKS[name]))
 
 
 if __name__ == "__main__":

@@ -1,7 +1,8 @@
 """Tries `custody serve` with objects, and reads what it stored with the command sqlite3.
 
-Each check starts a server on a new database and a free port of this machine. A database is read by sqlite3 while the
-server is killed, from a copy, and then by a server again. The names of objects come from the command sha256sum.
+Each check starts a server on a new database of each form and a free port of this machine. A database is read by
+sqlite3 while the server is killed, from a copy, and then by a server again. The names of objects come from the command
+sha256sum.
 """
 import signal
 import subprocess
@@ -9,10 +10,10 @@ import sys
 import time
 from pathlib import Path
 
-from tests.studio.checks import arguments, judge_on_server, require
+from tests.studio.checks import arguments, judge_on_forms, require
 from tests.studio.policy import FILM, GAME, open_policy
 from tests.studio.program import CHUNK, Server, content, lock, message, target
-from tests.studio.tables import has_begun, read_copy
+from tests.studio.tables import PLACE, has_begun, read_copy
 
 SIZES = [0, 1, CHUNK - 1, CHUNK, CHUNK + 1, 256 << 20]
 HELLO = "2cf24dba5fb0a30e26e83b2ac5b9e29e1b161e5c1fa7425e73043362938b9824"
@@ -74,10 +75,19 @@ UPLOADS = """SELECT repo, size, done, count(n), coalesce(max(n), -1), coalesce(s
 FROM uploads LEFT JOIN chunks ON upload = id GROUP BY id ORDER BY id;"""
 
 
-def row(size, repo=FILM):
-    """The line of UPLOADS for an object of this size."""
+def row(server, size, repo=FILM):
+    """The line of UPLOADS for an object of this size. One row of 16 bytes says where a content in the file is."""
+    if server.form == "file" and size >= CHUNK:
+        return f"{repo}|{size}|1|1|{PLACE}|16"
     count = -(-size // CHUNK)
     return f"{repo}|{size}|1|{count}|{count - 1}|{size}"
+
+
+def cut_row(server, size, cut):
+    """The line of UPLOADS for an upload of more than a chunk that was cut off, and is not removed yet. What is in the file
+    of it has no row."""
+    whole = 0 if server.form == "file" else cut // CHUNK
+    return f"{FILM}|{size}|0|{whole}|{whole - 1}|{whole * CHUNK}"
 
 
 def check_sizes(server, _):
@@ -92,9 +102,10 @@ def check_sizes(server, _):
         Path(path).write_bytes(data)
         require((status, sum_of(path)) == (200, oid),
                 f"an object of {size} bytes came back with {status}, as {sum_of(path)}")
-    expect_stored(server, UPLOADS, [row(size) for size in SIZES])
+    expect_stored(server, UPLOADS, [row(server, size) for size in SIZES])
     expect_stored(server, "SELECT name, used FROM repos;", [f"studio/film|{sum(SIZES)}"])
-    expect_stored(server, "SELECT DISTINCT length(bytes) FROM chunks ORDER BY 1;", ["1", str(CHUNK - 1), str(CHUNK)])
+    lengths = ["1", "16", str(CHUNK - 1)] if server.form == "file" else ["1", str(CHUNK - 1), str(CHUNK)]
+    expect_stored(server, "SELECT DISTINCT length(bytes) FROM chunks ORDER BY 1;", lengths)
     for size in SIZES:
         path, oid = file_of(server, size)
         Path(path).write_bytes(get(server, oid)[1])
@@ -112,7 +123,7 @@ def check_bytes(server, _):
         require(get(server, oid)[0] == 404, f"an object of {size} bytes exists before its upload")
         require(upload(server, oid, data, step=1) == 200, f"an upload of {size} bytes was refused")
         require(get(server, oid) == (200, data), f"an object of {size} bytes differs")
-    expect_stored(server, UPLOADS, [row(size) for size in SIZES[:-1]])
+    expect_stored(server, UPLOADS, [row(server, size) for size in SIZES[:-1]])
     return f"{len(SIZES) - 1} objects of up to {SIZES[-2]} bytes"
 
 
@@ -130,18 +141,22 @@ def check_cut(server, _):
             require(client.socket.recv(1) == b"", f"an upload that was cut after {cut} bytes got a reply")
         # A server that was killed meanwhile removes what is left at its first request, another one at its next.
         if cut % 3:
-            whole = cut // CHUNK
-            expect_stored(server, UPLOADS, [f"{FILM}|{size}|0|{whole}|{whole - 1}|{whole * CHUNK}"])
+            expect_stored(server, UPLOADS, [cut_row(server, size, cut)])
         require(get(server, oid)[0] == 404, f"an upload that was cut after {cut} bytes is served")
         expect_stored(server, UPLOADS, [])
         expect_stored(server, "SELECT count(*) FROM chunks;", ["0"])
         expect_stored(server, "SELECT count(*) FROM repos;", ["0"])
     require(upload(server, HELLO, b"hello") == 200, "the next upload was refused")
-    expect_stored(server, UPLOADS, [row(5)])
+    expect_stored(server, UPLOADS, [row(server, 5)])
     require(upload(server, oid, data) == 200, "the upload was refused")
     require(get(server, oid) == (200, data), "the object differs")
-    expect_stored(server, UPLOADS, [row(5), row(size)])
+    expect_stored(server, UPLOADS, [row(server, 5), row(server, size)])
     return f"{len(cuts)} uploads that were cut left no object, and after the next request nothing of their bytes"
+
+
+def has_first_chunk(server):
+    """Whether the server has stored the first chunk of an upload."""
+    return server.contents().stat().st_size >= CHUNK if server.form == "file" else has_begun(server.database)
 
 
 def stop_after_first_chunk(server):
@@ -150,7 +165,7 @@ def stop_after_first_chunk(server):
     with server.client() as client:
         client.send(message("PUT", content(oid), Path(path).read_bytes()[:CHUNK], length=2 * CHUNK))
         begun = time.monotonic()
-        while not has_begun(server.database):
+        while not has_first_chunk(server):
             require(time.monotonic() - begun < 10, "the first chunk was not stored within 10 s")
             time.sleep(0.01)
         server.end(signal.SIGKILL)
@@ -163,7 +178,9 @@ def check_stopped(server, _):
     _, replied, _ = server.over_files("session", given=message("GET", content(oid)), with_policy=True)
     require(replied.startswith("HTTP/1.1 404 ") and '"X1: ' in replied, f"a session replied {replied!r}")
     swept = [server.over_files("sweep") for _ in range(2)]
-    require(swept == [(0, f"swept {count} uploads\n", "") for count in (1, 0)], f"sweep gave {swept}")
+    # A database with a file of contents is opened without what was being received.
+    counts = (0, 0) if server.form == "file" else (1, 0)
+    require(swept == [(0, f"swept {count} uploads\n", "") for count in counts], f"sweep gave {swept}")
     server.start()
     expect_stored(server, "SELECT (SELECT count(*) FROM uploads), (SELECT count(*) FROM chunks);", ["0|0"])
     require(stop_after_first_chunk(server) == oid, "another upload")
@@ -174,7 +191,8 @@ def check_stopped(server, _):
     data = Path(f"{server.room}/content").read_bytes()
     is_stored = upload(server, oid, data) == 200 and get(server, oid) == (200, data)
     require(is_stored, "the object is not stored by a later upload")
-    return "X1 after each stop; sweep printed 1 and then 0 uploads, and a server removes it before its first connection"
+    return (f"X1 after each stop; sweep printed {counts[0]} and then 0 uploads, and a server removes it before its first "
+            "connection")
 
 
 def check_repositories(server, _):
@@ -190,7 +208,7 @@ def check_repositories(server, _):
     require(upload(server, oid, data, GAME, "b") == 200, "the second upload was refused")
     for repo, token in ((FILM, "a"), (GAME, "b")):
         require(get(server, oid, repo, token) == (200, data), f"the object of {repo} differs")
-    expect_stored(server, UPLOADS, [row(100_000), row(100_000, GAME)])
+    expect_stored(server, UPLOADS, [row(server, 100_000), row(server, 100_000, GAME)])
     expect_stored(server, "SELECT name, used FROM repos ORDER BY name;", ["studio/film|100000", "studio/game|100000"])
     return "two repositories store the same object, each for itself"
 
@@ -208,7 +226,7 @@ def check_refused(server, _):
         require(upload(server, HELLO, data) == 200, "an upload was refused")
     require(upload(server, HELLO, b"jello") == 422, "other bytes were not refused")
     require(get(server, HELLO) == (200, b"hello"), "the object differs")
-    expect_stored(server, UPLOADS, [row(5)])
+    expect_stored(server, UPLOADS, [row(server, 5)])
     return "refused uploads left no object, and an object that was uploaded twice has one row"
 
 
@@ -224,9 +242,9 @@ CHECKS = {
 
 def main():
     """Runs the checks."""
-    options = arguments(__doc__, CHECKS).parse_args()
+    options = arguments(__doc__, CHECKS, forms=True).parse_args()
     policy = open_policy(["ann"], (FILM, GAME))
-    return judge_on_server(CHECKS, options, lambda program, room: Server(program, room, policy))
+    return judge_on_forms(CHECKS, options, lambda program, room, form: Server(program, room, policy, form=form))
 
 
 if __name__ == "__main__":

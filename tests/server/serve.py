@@ -1,7 +1,8 @@
 """Tries `custody serve` with clients that are slow, silent, busy or gone, with a server that is killed, and with load.
 
-Each check starts a server on a new database and a free port of this machine. Its line has what was measured, with the
-bound, and it fails if the bound is not kept. One check waits for 30 seconds, the time that a reply may pause.
+Each check starts a server on a new database of each form and a free port of this machine. Its line has what was
+measured, with the bound, and it fails if the bound is not kept. One check waits for 30 seconds, the time that a reply
+may pause.
 """
 import collections
 import contextlib
@@ -15,7 +16,7 @@ import socket
 import sys
 import time
 
-from tests.studio.checks import Failed, arguments, beside, judge_on_server, require, within
+from tests.studio.checks import Failed, arguments, beside, judge_on_forms, require, within
 from tests.studio.policy import policy, row, WORK
 from tests.studio.program import LOCKS, Server, content, lock, message, name_of, put
 
@@ -371,12 +372,12 @@ CHECKS = {
 
 def main():
     """Runs the checks."""
-    parser = arguments(__doc__, CHECKS)
+    parser = arguments(__doc__, CHECKS, forms=True)
     parser.add_argument("--rounds", type=int, default=10, help="how often a server is ended in mid-load")
     parser.add_argument("--connections", type=int, default=10_000, help="how many connections the check `load` makes")
     parser.add_argument("--requests", type=int, default=1_000_000, help="how many requests the check `load` sends")
     options = parser.parse_args()
-    return judge_on_server(CHECKS, options, Server)
+    return judge_on_forms(CHECKS, options, lambda program, room, form: Server(program, room, form=form))
 
 
 if __name__ == "__main__":

@@ -1,6 +1,7 @@
 """Tries `custody` on spoiled databases: what it refuses, what `custody check` finds, and what nothing finds.
 
-Each database is a copy of a good one with one flipped bit, 4,096 zeros, a cut end, a log of another moment or no log.
+Each database is a copy of a good one, of each form, with one flipped bit, 4,096 zeros, a cut end, a log of another
+moment or no log. A file of contents is spoiled too, which costs the object of the bytes and no other.
 `objects`, `locks`, `check` and `serve` each get a copy of their own. The check fails if one of them is ended by a
 signal, takes longer than 20 seconds, or prints a line or a status that docs/COMMANDS.md does not state; if the server
 sends bytes that do not have the object's name, and `check` does not name it as damaged; or if `check` names an object
@@ -35,13 +36,14 @@ import subprocess
 import sys
 import tempfile
 from dataclasses import dataclass, field
+from pathlib import Path
 
-from tests.studio.checks import Failed, arguments, judge_each, require
+from tests.studio.checks import Checks, Failed, arguments, require
 from tests.studio.control import ControlledServer, issue_words, token_of
 from tests.studio.policy import FILM
-from tests.studio.program import Closed, NotStarted, content, message, name_of, put, run, target
-from tests.studio.spoiled import (CONTENTS, LETTERS, MEMORY, PAGE, POLICY, REPOS, RETIRED, TABLES, TOKENS, WAYS, Maker,
-                                  Spoiled, Spoiler, bytes_of, is_sound, name_of_size, rows_of, zero)
+from tests.studio.program import FORMS, Closed, NotStarted, content, message, name_of, put, run, target
+from tests.studio.spoiled import (CONTENTS, LETTERS, MEMORY, PAGE, POLICY, REPOS, RETIRED, TABLES, TOKENS, WAYS,
+                                  WAYS_BESIDE, Maker, Spoiled, Spoiler, bytes_of, is_sound, name_of_size, rows_of, zero)
 
 LONGEST = 20
 REFUSALS = ("custody: store G1\n", "custody: store G2\n")
@@ -310,6 +312,13 @@ class Trial:
         for name in self.view.damaged - listed:
             require(name[0] not in REPOS, f"check names {name}, which is not listed")
 
+    def require_cost(self):
+        """A spoiled file of contents costs the object whose bytes were spoiled, and no other. A cut one is refused."""
+        if self.spoiled.contents is not None:
+            costs = self.spoiled.costs
+            is_right = not self.refused and self.view.damaged == costs if costs else self.refused >= {"check", "serve"}
+            require(is_right, f"check names {self.view.damaged}, refused: {self.refused}; it was to cost {costs}")
+
     def repair(self):
         """Repairs a copy, and stores the removed objects again."""
         folder = self.copy()
@@ -415,6 +424,7 @@ def try_one(options, good, spoiled, repo):
             trial.serve()
             trial.require_same()
             trial.require_named()
+            trial.require_cost()
             before = set(trial.refused)
             trial.repair()
             trial.refused = before
@@ -435,7 +445,7 @@ def line_of(spoiled, result):
 
 def check(options, good, name):
     """The databases that are spoiled in one way."""
-    way, share = WAYS[name]
+    way, share = (WAYS | WAYS_BESIDE)[name]
     spoiler = Spoiler(good, f"{options.seed} {name}")
     results, faults = [], []
     for number in range(-(-options.count * share // 100)):
@@ -473,6 +483,8 @@ def dumped(program, good, number):
         trial = Trial(program, Spoiled(f"page {number}", whose, file, whole.log, whole), room)
         folder = trial.copy()
         os.mkdir(f"{folder}/new")
+        if whole.contents is not None:
+            Path(folder, "new/db-contents").write_bytes(whole.contents)
         subprocess.run(DUMP, shell=True, cwd=folder, capture_output=True, timeout=LONGEST, check=False)
         damaged, rows = trial.check(over(f"{folder}/new")), rows_of(f"{folder}/new")
     if damaged is None:
@@ -499,17 +511,21 @@ def check_dump(options, good, _):
 
 def main():
     """Makes the good database, and runs the checks."""
-    names = [*WAYS, "dump"]
-    parser = arguments(__doc__, names)
+    names = {"rows": [*WAYS, "dump"], "file": [*WAYS, *WAYS_BESIDE, "dump"]}
+    parser = arguments(__doc__, names["file"], forms=True)
     parser.add_argument("--count", type=int, default=200, help="how many databases, in all ways together")
     parser.add_argument("--seed", type=int, default=1, help="for the same databases again")
     parser.add_argument("--list", action="store_true", help="a line for each that has changed")
     options = parser.parse_args()
-    with tempfile.TemporaryDirectory(dir=MEMORY) as room:
-        good = Maker(options.program, room).make()
-    print(f"{len(good.moments[-1].log)} bytes of log, {len(good.whole.file)} bytes of file with it")
-    acts = {name: check for name in WAYS} | {"dump": check_dump}
-    return judge_each(names, options, lambda name: acts[name](options, good, name))
+    judged = Checks()
+    for form in options.form or FORMS:
+        with tempfile.TemporaryDirectory(dir=MEMORY) as room:
+            good = Maker(options.program, room, form).make()
+        print(f"{form}: {len(good.moments[-1].log)} bytes of log, {len(good.whole.file)} bytes of file with it")
+        for name in names[form] if not options.only else [it for it in names[form] if it in options.only]:
+            act = check_dump if name == "dump" else check
+            judged.judge(f"{name}, {form}", lambda: act(options, good, name))
+    return judged.end()
 
 
 if __name__ == "__main__":

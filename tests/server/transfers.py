@@ -2,9 +2,9 @@
 
 Two users have repositories whose remotes are reached over SSH. A script is in the place of sshd: it runs Git's own
 commands on the repositories of a temporary folder, and answers git-lfs-authenticate with the line that `custody
-authenticate` prints. 200 files of 1 byte to 50 MB are pushed and cloned, with one
-transfer at a time and with eight. Then one of two files is removed for good. A check fails if a file has other bytes
-than it was pushed with, or if the client ends otherwise, or without the words of the rule.
+authenticate` prints. 200 files of 1 byte to 50 MB are pushed and cloned, with one transfer at a time and with eight,
+over a database of each form. Then one of two files is removed for good. A check fails if a file has other bytes than
+it was pushed with, or if the client ends otherwise, or without the words of the rule.
 """
 import contextlib
 import random
@@ -17,7 +17,7 @@ from pathlib import Path
 from tests.studio.checks import Checks, arguments
 from tests.studio.clone import Clone, Workroom
 from tests.studio.policy import WORK, repo, row
-from tests.studio.program import name_of
+from tests.studio.program import FORMS, name_of
 from tests.studio.site import SiteServer
 
 QUOTAS = {"studio/film": 2_000_000_000, "studio/small": 100_000, "studio/gone": 100_000}
@@ -44,9 +44,9 @@ exit 1
 class Trial(Workroom):
     """A server, its repositories, and the users' clones."""
 
-    def __init__(self, options, room, checks):
+    def __init__(self, options, room, checks, form):
         super().__init__(room, checks, options.show)
-        self.program, self.count = options.program, options.files
+        self.program, self.count, self.form = options.program, options.files, form
         self.set_up_git()
         for user in ("ann", "bob"):
             text = SSH.replace("@user", user).replace("@room", room).replace("@program", options.program)
@@ -57,7 +57,7 @@ class Trial(Workroom):
     @contextlib.contextmanager
     def served(self):
         """Runs the server meanwhile."""
-        with SiteServer(self.program, self.room, ROWS, repos=()) as server:
+        with SiteServer(self.program, self.room, ROWS, repos=(), form=self.form) as server:
             yield
             self.expect(server.child.poll() is None, "the server still runs")
             server.end(signal.SIGTERM)
@@ -224,16 +224,18 @@ def try_all(trial):
 
 def main():
     """Runs the suite."""
-    parser = arguments(__doc__)
+    parser = arguments(__doc__, forms=True)
     parser.add_argument("--files", type=int, default=200, help="how many files are pushed [default: 200]")
     parser.add_argument("--show", action="store_true", help="print each command and what the client prints")
     options = parser.parse_args()
     checks = Checks()
-    with tempfile.TemporaryDirectory() as room:
-        checks.part("transfers", lambda: try_all(Trial(options, room, checks)))
-        errors = Path(room, "errors")
-        if errors.exists() and errors.stat().st_size:
-            print(f"the server printed:\n{errors.read_text(encoding='utf-8')}")
+    for form in options.form or FORMS:
+        print(f"a database of the form {form}", flush=True)
+        with tempfile.TemporaryDirectory() as room:
+            checks.part("transfers", lambda: try_all(Trial(options, room, checks, form)))
+            errors = Path(room, "errors")
+            if errors.exists() and errors.stat().st_size:
+                print(f"the server printed:\n{errors.read_text(encoding='utf-8')}")
     return checks.end()
 
 

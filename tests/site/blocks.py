@@ -22,6 +22,8 @@ FOLDER = TOP / "docs/operating"
 # The languages of blocks that are commands: a script, commands with what they print, and lines of a crontab.
 COMMANDS = ("sh", "console", "cron")
 ELSEWHERE = {("runbook", None): "site", ("security", 0): "security"}
+# A file of more than 64 KiB, whose content is not in the rows.
+HERO = b"a hero\n" * 20_000
 ROWS = (row("allow", ["ann"], ["force"]), row("deny", ["ann"], ["lock"], paths=("final/",)),
         row("allow", ["ann", "bob"], WORK))
 
@@ -77,14 +79,14 @@ def try_first_push(site, book):
     site.write("bob.pub", site.new_key("bob") + "\n")
     printed = book.do("install")
     site.expect(printed == "ann has 1 keys\nbob has 1 keys\n", "each has a key", printed)
-    site.write("ann/hero.psd", "a hero")
+    site.write("ann/hero.psd", HERO.decode())
     name = f"ssh://custody@lfs.example/{FILM}.git"
     site.environment["GIT_SSH_COMMAND"] = site.ssh_command("ann")
     settings = 'git config user.name ann && git config user.email ann@studio.example && cp ../ann/hero.psd .'
     printed = book.do("install", 1, edit=lambda text: text.replace(name, site.remote()).replace(
         "&& cd film\n", f"&& cd film\n{settings}\n").replace("git push\n", "git push origin HEAD:main\n"))
     del site.environment["GIT_SSH_COMMAND"]
-    site.expect("Locked hero.psd" in printed and name_of(b"a hero") in site.server.objects(),
+    site.expect("Locked hero.psd" in printed and name_of(HERO) in site.server.objects(),
                 "ann's first file is stored, and locked", printed)
 
 
@@ -92,12 +94,15 @@ def try_copies(site, book):
     """A copy of the running server, and one of the server that was stopped."""
     printed = book.do("backup")
     site.expect("checked 1 objects" in printed, "the copy of the running server is whole", printed)
-    book.do("backup", 1)
+    site.expect(book.do("backup", 1) == "", "each content of the copy has its name")
+    book.do("backup", 2)
     copy = Path(site.room, "backup/custody.db")
     printed = site.run(site.server.program, "check", "--db", copy)[1]
-    site.expect(printed == "checked 1 objects\n", "the copy of a stopped server is one whole file", printed)
-    printed = book.do("backup", 2)
-    site.expect("already version 2" in printed, "an upgrade migrates what is of version 1 alone", printed)
+    site.expect(printed == "checked 1 objects\n", "the copy of a stopped server is whole", printed)
+    printed = book.do("backup", 3)
+    site.expect("already version 3" in printed, "what has a file of contents stays as it is", printed)
+    printed = book.do("backup", 4)
+    site.expect("already version 3" in printed, "an upgrade migrates what is of version 1 alone", printed)
 
 
 def try_questions(site, book):
@@ -121,8 +126,8 @@ def try_questions(site, book):
 def try_removals(site, book):
     """Objects that are removed by hand, and those that no branch needs; the file without the pages that are free."""
     oid = book.all["removing-objects", 0][1].split()[-1]
-    printed = book.do("removing-objects", edit=lambda text: text.replace(oid, name_of(b"a hero")))
-    site.expect(printed == f"retired {name_of(b'a hero')}\n", "an object is removed for good", printed)
+    printed = book.do("removing-objects", edit=lambda text: text.replace(oid, name_of(HERO)))
+    site.expect(printed == f"retired {name_of(HERO)}\n", "an object is removed for good", printed)
     site.ann.begin(site.remote())
     site.ann.git("lfs", "track", "*.psd")
     site.ann.add_files("art", 3, 10_000)

@@ -15,7 +15,7 @@ from pathlib import Path
 from tests.studio.checks import require
 from tests.studio.clone import Clone
 from tests.studio.policy import FILM, WORK, row
-from tests.studio.program import TOP
+from tests.studio.program import CHUNK, TOP
 from tests.studio.site import SiteServer, placed
 
 PAGE = TOP / "docs/operating/runbook.md"
@@ -178,11 +178,11 @@ def damage(site, seed):
     name = random.Random(seed).choice(files)
     text = name.read_bytes()[30_000:30_100]
     site.run("systemctl", "stop")
-    database = Path(site.server.database)
-    stored = bytearray(database.read_bytes())
-    require(stored.count(text) == 1, f"the bytes of {name.name} are not in the database once")
+    file = site.server.contents() if name.stat().st_size >= CHUNK else Path(site.server.database)
+    stored = bytearray(file.read_bytes())
+    require(stored.count(text) == 1, f"the bytes of {name.name} are not in {file.name} once")
     stored[stored.find(text)] ^= 1
-    database.write_bytes(stored)
+    file.write_bytes(stored)
     site.run("systemctl", "start")
 
 

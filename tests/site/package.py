@@ -22,7 +22,8 @@ from tests.studio.program import TOP, run
 
 HOME = "var/lib/custody"
 # What a script touches below the home, as an earlier package had it and as this one has it.
-TOUCHED = ("db", "custody.db", "custody.db-wal", "db/custody.db", "db/custody.db-wal", ".ssh", ".ssh/authorized_keys")
+FILES = ("custody.db", "custody.db-wal", "custody.db-contents")
+TOUCHED = ("db", *FILES, *(f"db/{it}" for it in FILES), ".ssh", ".ssh/authorized_keys")
 STAND_IN = """#!/bin/sh
 echo "${0##*/} $*" >> "$DPKG_ROOT/../asked"
 case ${0##*/} in
@@ -48,7 +49,7 @@ class Machine:
         self.victim.mkdir(mode=0o755)
         (self.victim / "spare").write_text("root's")
         if is_earlier:
-            for name in ("custody.db", "custody.db-wal"):
+            for name in FILES:
                 (self.home / name).write_text(name)
         for name in COMMANDS:
             path = self.room / "bin" / name
@@ -126,18 +127,20 @@ def try_upgrade(checks, scripts):
     with tempfile.TemporaryDirectory() as room:
         machine = Machine(room, scripts, is_earlier=True)
         status, said = machine.run(*CONFIGURE)
-        found = {name: (machine.home / "db" / name).read_text() for name in ("custody.db", "custody.db-wal")}
+        found = {name: (machine.home / "db" / name).read_text() for name in FILES}
         checks.expect(status == 0 and found == {name: name for name in found} and "custody migrate" in said,
-                      "an earlier database is moved with its log", said)
+                      "an earlier database is moved with its log and its file of contents", said)
         asked = [it.split()[0] for it in machine.asked()]
         checks.expect(asked == ["useradd", "chown", "chmod", "install", "systemctl", "systemctl", "deb-systemd-invoke",
-                                "mv", "mv", "deb-systemd-invoke"], "while the server is stopped", machine.asked())
+                                "mv", "mv", "mv", "deb-systemd-invoke"], "while the server is stopped", machine.asked())
+        moved = [it.split()[-1].rpartition("/")[2] for it in machine.asked() if it.startswith("mv ")]
+        checks.expect(moved[-1] == "custody.db", "and the database itself as the last of its files", moved)
         status, said = machine.run(*CONFIGURE)
         checks.expect(status == 0, "the package is installed once more", said)
         (machine.home / "db/spare").write_text("spare")
         kept = [machine.run(*words)[0] for words in (REMOVE, PURGE)]
         names = sorted(it.name for it in (machine.home / "db").iterdir())
-        checks.expect(kept == [0, 0] and names == ["custody.db", "custody.db-wal"],
+        checks.expect(kept == [0, 0] and names == sorted(FILES),
                       "its removal leaves the database, and not the spare file", names)
         (machine.home / "db/spare").mkdir()
         status, said = machine.run(*REMOVE)
@@ -164,6 +167,7 @@ def try_unit(checks):
     checks.expect((values.get("IPAddressDeny"), values.get("IPAddressAllow")) == ("any", "localhost"),
                   "the unit lets the server connect to this machine alone")
     checks.expect(values.get("InaccessiblePaths") == "-/srv", "it hides the Git repositories from the server")
+    checks.expect("--contents" in values["ExecStart"].split(), "it has a new database made with a file of contents")
     count = int(values.get("LimitNOFILE", 1024))
     # The connections of clients and operators, and what is opened beside them.
     checks.expect(count >= 2 * (CLIENTS + OPERATORS), f"it has {count} descriptors, for {CLIENTS} clients")

@@ -166,12 +166,14 @@ def try_backup(site):
     status, text = pushed()
     site.expect(ran[0] == 0, f"a copy is made during a push, and checked, in {taken:.1f} s: {ran[1].strip()}", ran[1])
     site.expect(status == 0, "the push passes", text)
-    copies = list(Path(site.room, "backups").iterdir())
-    words = [site.server.program, "objects", "--db", f"{copies[0]}/custody.db", "--repo", FILM]
+    copies = list(Path(site.room, "backups").glob("*Z"))
+    site.expect(len(copies) == 1, "there is one copy", str(copies))
+    status, text = site.run(TOP / "deploy/programs/restore", copies[0], f"{site.room}/restored.db", may_fail=True)
+    site.expect(status == 0, f"a database is made of it: {text.strip()}", text)
+    words = [site.server.program, "objects", "--db", f"{site.room}/restored.db", "--repo", FILM]
     found = site.run(*words, may_fail=True)
     count = len(found[1].splitlines())
-    site.expect(len(copies) == 1 and least <= count <= most, f"the copy has {count} objects: {least} or more",
-                found[1][:200])
+    site.expect(least <= count <= most, f"the copy has {count} objects: {least} or more", found[1][:200])
 
 
 def time_of_lock(site, token, path):
@@ -217,6 +219,7 @@ def try_stop(site):
     site.expect((status, text, ended) == (0, "", 0) and printed.startswith("served "),
                 f"a server is stopped: {printed.strip()}", text)
     shutil.copyfile(site.server.database, f"{site.room}/alone")
+    shutil.copyfile(site.server.contents(), f"{site.room}/alone-contents")
     site.server.start()
     status, text = pushed()
     print(f"     a push during which the server was stopped ended with {status}")
@@ -224,7 +227,7 @@ def try_stop(site):
         status, text = site.ann.tried(*PUSH)
     site.expect(status == 0 and site.count() == before + 300, "the push, or the one after it, passes", text)
     status, text = site.run(site.server.program, "check", "--db", f"{site.room}/alone", may_fail=True)
-    site.expect(status == 0, f"the file alone, without its log, is whole: {text.strip()}", text)
+    site.expect(status == 0, f"the files without the log are whole: {text.strip()}", text)
 
 
 def try_reload(site):

@@ -8,7 +8,7 @@ import tempfile
 import threading
 import time
 
-from tests.studio.program import TOP
+from tests.studio.program import FORMS, TOP
 
 
 class Failed(Exception):
@@ -81,18 +81,44 @@ def judge_each(names, options, act):
     return checks.end()
 
 
+def measured_on(check, options, server):
+    """What the check measured on the server, which runs at its end."""
+    with server:
+        result = check(server, options)
+        require(server.child.poll() is None, "the server has ended")
+        return result
+
+
 def judge_on_server(checks, options, start):
-    """Judges each of the checks on a server that is started for it in a folder, and runs at its end. Returns the status
-    of the suite."""
+    """Judges each of the checks on a server that is started for it in a folder. Returns the status of the suite."""
 
     def act(name):
         """What the check measured."""
-        with tempfile.TemporaryDirectory() as room, start(options.program, room) as server:
-            result = checks[name](server, options)
-            require(server.child.poll() is None, "the server has ended")
-            return result
+        with tempfile.TemporaryDirectory() as room:
+            return measured_on(checks[name], options, start(options.program, room))
 
     return judge_each(checks, options, act)
+
+
+def judge_forms(names, options, act):
+    """Judges `act` of each of the names with each form of a database, or of those that the options name. Returns the
+    status of the suite."""
+    checks = Checks()
+    for name in options.only or names:
+        for form in options.form or FORMS:
+            checks.judge(f"{name}, {form}", lambda: act(name, form))
+    return checks.end()
+
+
+def judge_on_forms(checks, options, start):
+    """Judges each of the checks on servers with a database of each form. `start` takes the form too."""
+
+    def act(name, form):
+        """What the check measured."""
+        with tempfile.TemporaryDirectory() as room:
+            return measured_on(checks[name], options, start(options.program, room, form))
+
+    return judge_forms(checks, options, act)
 
 
 @contextlib.contextmanager
@@ -110,11 +136,15 @@ def beside(*acts):
             thread.join()
 
 
-def arguments(says, names=None):
-    """A parser with the arguments that each suite has. `names` are those of its checks, if each can be tried alone."""
+def arguments(says, names=None, forms=False):
+    """A parser with the arguments that each suite has. `names` are those of its checks, if each can be tried alone, and
+    `forms` says whether it tries both forms of a database."""
     parser = argparse.ArgumentParser(description=says.strip().splitlines()[0])
     parser.add_argument("--program", default=str(TOP / "bin/custody"), type=os.path.abspath,
                         help="the program [default: bin/custody]")
+    if forms:
+        parser.add_argument("--form", action="append", choices=FORMS,
+                            help=f"only databases of this form: {', '.join(FORMS)}")
     if names:
         parser.add_argument("--only", action="append", choices=list(names), metavar="CHECK",
                             help=f"only this check: {', '.join(names)}")

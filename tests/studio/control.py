@@ -19,8 +19,8 @@ def token_of(line):
 class ControlledServer(Server):
     """A server with a control socket. `more` has further words of `serve`."""
 
-    def __init__(self, program, room, policy=None, idle=10, more=(), database="custody.db", port=None):
-        super().__init__(program, room, policy, idle, ["--control", f"{room}/control", *more], database, port)
+    def __init__(self, program, room, policy=None, idle=10, more=(), database="custody.db", port=None, form="rows"):
+        super().__init__(program, room, policy, idle, ["--control", f"{room}/control", *more], database, port, form)
 
     def command(self, name, *more):
         """The words of a command by the socket."""

@@ -15,6 +15,8 @@ from tests.studio.policy import FILM, open_policy
 
 TOP = Path(__file__).resolve().parent.parent.parent
 CHUNK = 65_536
+# Where a new database has the contents of objects: all in its rows, or those of a chunk and more in a file beside it.
+FORMS = ("rows", "file")
 # Linux gives its clients ports from 32,768 on.
 PORTS = (20_000, 32_768)
 # A moment that is long past, and the last one that there is.
@@ -52,6 +54,11 @@ def content(oid, repo=FILM):
 
 
 LOCKS = target("locks")
+
+
+def made(seed, size):
+    """Bytes of an object."""
+    return random.Random(seed).randbytes(size)
 
 
 def name_of(data):
@@ -160,6 +167,14 @@ class Files:
         """Writes the policy."""
         Path(f"{self.room}/policy.toml").write_text(text, encoding="utf-8")
 
+    def make_beside(self):
+        """Makes the database with a file of contents, if there is none: the first command over its files would make it
+        without one."""
+        words = [self.program, "serve", *self.files(), "--listen", f"127.0.0.1:{free_port()}", "--contents"]
+        with subprocess.Popen(words, stdout=subprocess.PIPE) as child:
+            child.stdout.readline()
+            child.kill()
+
     def files(self):
         """The words that name the database and the policy."""
         return ["--db", self.database, "--policy", f"{self.room}/policy.toml"]
@@ -197,13 +212,19 @@ class Server(Files):
     # The letter of the first token, or none if nobody has a token at first.
     letter = "a"
 
-    def __init__(self, program, room, policy=None, idle=10, more=(), database="custody.db", port=None):
+    def __init__(self, program, room, policy=None, idle=10, more=(), database="custody.db", port=None, form="rows"):
         super().__init__(program, room, policy, database)
-        self.idle, self.more = idle, list(more)
+        self.idle, self.more, self.form = idle, list(more), form
+        if form == "file":
+            self.make_beside()
         if self.letter:
             self.issue(self.letter)
         self.port = port or free_port()
         self.start()
+
+    def contents(self):
+        """The file of contents."""
+        return Path(f"{self.database}-contents")
 
     def control(self):
         """The control socket, if the server has one."""

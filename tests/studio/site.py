@@ -15,7 +15,8 @@ from tests.studio.control import ControlledServer
 from tests.studio.policy import FILM, MAIN, policy
 from tests.studio.program import TOP, free_port, listening, lock, message, target
 
-PROGRAMS = ("custody-user", "forced-command", "pre-receive", "backup", "spare", "unreferenced", "unlock", "mirror")
+PROGRAMS = ("custody-user", "forced-command", "pre-receive", "backup", "restore", "spare", "unreferenced", "unlock",
+            "mirror")
 NGINX = """
 daemon off;
 pid @room/nginx.pid;
@@ -76,14 +77,15 @@ def placed(text, room, port):
 
 
 class SiteServer(ControlledServer):
-    """A server whose policy has these rows, and this address for its clients. Nobody has a token at first."""
+    """A server whose policy has these rows, and this address for its clients. Nobody has a token at first. Its database
+    has a file of contents, as one that the unit makes."""
 
     letter = None
 
-    def __init__(self, program, room, rows, base=None, repos=(FILM,), database="custody.db"):
+    def __init__(self, program, room, rows, base=None, repos=(FILM,), database="custody.db", form="file"):
         port = free_port()
         self.rows, self.base, self.repos = rows, base or f"http://127.0.0.1:{port}", repos
-        super().__init__(program, room, self.policy(), database=database, port=port)
+        super().__init__(program, room, self.policy(), database=database, port=port, form=form)
 
     def policy(self, rows=None, seconds=SECONDS, quota=QUOTA):
         """The text of its policy."""
@@ -109,7 +111,7 @@ class SiteServer(ControlledServer):
 class Site(Workroom):
     """The server in a folder; with nginx and sshd before it once they are started, and users with keys and clones."""
 
-    def __init__(self, program, room, rows, checks, shows=False):
+    def __init__(self, program, room, rows, checks, shows=False, form="file"):
         super().__init__(room, checks, shows)
         self.children = []
         self.https, self.ssh = free_port(), free_port()
@@ -117,7 +119,8 @@ class Site(Workroom):
         # Git LFS 3.3 does not read http.sslCAInfo.
         self.environment |= {"GIT_SSL_CAINFO": self.certificate, "SSL_CERT_FILE": self.certificate}
         Path(room, "state").mkdir()
-        self.server = SiteServer(program, room, rows, f"https://localhost:{self.https}", database="state/custody.db")
+        self.server = SiteServer(program, room, rows, f"https://localhost:{self.https}", database="state/custody.db",
+                                 form=form)
 
     # nginx and sshd.
 

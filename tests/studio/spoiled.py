@@ -2,7 +2,8 @@
 
 The good one has three repositories with objects of no byte to three chunks, locks of two users on two refs, tokens, an
 expired one, and two names that were removed for good. Its first half is in the file, and the rest in the log, as a
-program that was killed leaves them. What was stored after each request is kept too, and the files of some moments.
+program that was killed leaves them; contents of a chunk and more are in a file beside it, if it has that form. What
+was stored after each request is kept too, and the files of some moments.
 """
 import contextlib
 import random
@@ -14,7 +15,7 @@ from pathlib import Path
 from tests.studio.checks import stop
 from tests.studio.policy import ART, FILM, GAME, MAIN, open_policy
 from tests.studio.program import CHUNK, LAST, NOW, Files, lock, message, name_of, put, target
-from tests.studio.tables import copied
+from tests.studio.tables import PLACE, copied
 
 REPOS = [FILM, GAME, ART]
 POLICY = open_policy(repos=REPOS, quota=100_000_000)
@@ -99,10 +100,11 @@ RETIRED = [(FILM, name_of_size(20_000)), (GAME, name_of_size(5_000))]
 
 @dataclass
 class Moment:
-    """The two files as they were at one moment, and the rows of all tables."""
+    """The files as they were at one moment, and the rows of all tables. There may be no file of contents."""
 
     file: bytes
     log: bytes
+    contents: bytes
     rows: dict
 
 
@@ -158,9 +160,11 @@ def pages_of(folder):
 class Maker(Files):
     """Makes the good database with the program."""
 
-    def __init__(self, program, room):
+    def __init__(self, program, room, form):
         super().__init__(program, room, POLICY, "db")
         self.good = Good()
+        if form == "file":
+            self.make_beside()
 
     def step(self, request):
         """Answers a request, or removes an object for good."""
@@ -176,9 +180,10 @@ class Maker(Files):
 
     def moment(self):
         """The files as they are."""
-        log = Path(self.room, "db-wal")
+        log, contents = Path(self.room, "db-wal"), Path(self.room, "db-contents")
         data = log.read_bytes() if log.exists() else b""
-        return Moment(Path(self.room, "db").read_bytes(), data, rows_of(self.room))
+        beside = contents.read_bytes() if contents.exists() else None
+        return Moment(Path(self.room, "db").read_bytes(), data, beside, rows_of(self.room))
 
     def move_log(self):
         """Moves the log into the file. No row is changed."""
@@ -215,19 +220,24 @@ def frames_of(log):
 
 @dataclass
 class Spoiled:
-    """A spoiled database: what was done, whose bytes they are, the files, and the moment that it was made from."""
+    """A spoiled database: what was done, whose bytes they are, the files, and the moment that it was made from. The
+    file of contents is that of the moment, unless it is the one that was spoiled: then it costs these objects and no
+    other, or the database is refused."""
 
     what: str
     whose: str
     file: bytes
     log: bytes
     moment: Moment
+    contents: bytes = None
+    costs: set = None
 
     def put(self, folder):
         """Writes the files into the folder."""
-        Path(folder, "db").write_bytes(self.file)
-        if self.log is not None:
-            Path(folder, "db-wal").write_bytes(self.log)
+        contents = self.moment.contents if self.contents is None else self.contents
+        for end, data in (("", self.file), ("-wal", self.log), ("-contents", contents)):
+            if data is not None:
+                Path(folder, f"db{end}").write_bytes(data)
 
 
 def flip(data, at, bit):
@@ -330,6 +340,36 @@ class Spoiler:
         return Spoiled(f"the file of moment {number} without its log", "the log", moment.file, None, moment)
 
 
+    def of_contents(self, what, contents, costs=None):
+        """The last database with this file of contents."""
+        return Spoiled(what, "the file of contents", self.last.file, self.last.log, self.last, contents, costs)
+
+    def place(self):
+        """The region of an object in the file of contents, and the object."""
+        rows = self.last.rows
+        names = {it[0]: (it[1].decode(), it[2].decode()) for it in rows["uploads"] if it[4] == 1}
+        places = sorted((it[2], names[it[0]]) for it in rows["chunks"] if it[1] == PLACE)
+        region, name = self.random.choice(places)
+        return int.from_bytes(region[:8], "big"), int.from_bytes(region[8:], "big"), name
+
+    def contents_bit(self):
+        """One bit of an object in the file of contents."""
+        start, size, name = self.place()
+        at, bit = start + self.random.randrange(size), self.random.randrange(8)
+        return self.of_contents(f"bit {bit} of byte {at} of the contents", flip(self.last.contents, at, bit), {name})
+
+    def contents_page(self):
+        """Zeros for 4,096 bytes of an object in the file of contents."""
+        start, size, name = self.place()
+        at = start + self.random.randrange(size - PAGE + 1)
+        return self.of_contents(f"zeros from byte {at} of the contents", zero(self.last.contents, at), {name})
+
+    def contents_cut(self):
+        """A file of contents that is cut short."""
+        size = self.random.randrange(len(self.last.contents))
+        return self.of_contents(f"contents of {size} bytes", self.last.contents[:size])
+
+
 # The ways to spoil a database, and how many of 100 databases each gets.
 WAYS = {
     "file-bit": (Spoiler.file_bit, 30),
@@ -340,4 +380,10 @@ WAYS = {
     "log-cut": (Spoiler.log_cut, 8),
     "other-log": (Spoiler.other_log, 7),
     "no-log": (Spoiler.no_log, 2),
+}
+# The same of a file of contents.
+WAYS_BESIDE = {
+    "contents-bit": (Spoiler.contents_bit, 10),
+    "contents-page": (Spoiler.contents_page, 10),
+    "contents-cut": (Spoiler.contents_cut, 5),
 }

@@ -4,6 +4,17 @@ import subprocess
 import tempfile
 from pathlib import Path
 
+# The number of a row of `chunks` that says where a content in the file of contents is.
+PLACE = 4_294_967_295
+# The rows that do not depend on where contents are, and those that do.
+ROWS = """SELECT name, made, used FROM repos ORDER BY rowid;
+SELECT repo, id, ref, path, owner, moment FROM locks ORDER BY rowid;
+SELECT hex(digest), user, repo, op, expires FROM tokens ORDER BY rowid;
+SELECT repo, oid FROM retired ORDER BY rowid;
+SELECT id, repo, oid, size, done FROM uploads WHERE done = 1 ORDER BY id;
+"""
+CHUNKS = "SELECT upload, n, hex(bytes) FROM chunks ORDER BY upload, n;"
+
 
 def sqlite3(path, statements):
     """What the command sqlite3 prints for the statements."""

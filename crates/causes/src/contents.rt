@@ -22,5 +22,8 @@ pub(crate) fn contents_text(cause: ContentsCause) -> &'static str {
             "a row of the database says where no content can be: another program changed it, so use a copy"
         }
         ContentsCause::Failed => "it cannot be opened, read or synced: see dmesg for the cause",
+        ContentsCause::Damaged => {
+            "an object has fewer or more bytes than its size says: custody repair removes it"
+        }
     }
 }

@@ -80,8 +80,8 @@ impl<'a> Named<'a> {
                 policy: Some(args.policy),
                 ..Named::NOTHING
             },
-            Command::Migrate(db) => Named {
-                db: Some(*db),
+            Command::Migrate(args) => Named {
+                db: Some(args.db),
                 ..Named::NOTHING
             },
             Command::Local(files, command) => Named {

@@ -58,7 +58,8 @@ pub fn room_beside(rt: &HostRuntime, db: &str) -> Room {
 impl fmt::Display for Room {
     fn fmt<W: fmt::Write>(&self, f: &mut fmt::Formatter<W>) -> fmt::Result {
         f.write_str(match self {
-            Room::Enough => "the disk has room: memory ran out, or the disk failed (see dmesg)",
+            Room::Enough =>
+                "the disk has room now: it was full, memory ran out, or the disk failed (see dmesg)",
             Room::Full => "the disk is full: make room, then push again",
             Room::ReadOnly => "the file system is read-only: see dmesg for the cause",
             Room::NoPermission => "its folder may not be written to by this user",

@@ -19,7 +19,7 @@ fn refused(cause: ContentsCause) -> Fault {
 }
 
 /// The path of the file of contents of a database.
-fn contents_path(rt: &HostRuntime, db: &str) -> Result<String, Fault> {
+pub(crate) fn contents_path(rt: &HostRuntime, db: &str) -> Result<String, Fault> {
     let Ok(real) = fs::canonicalize(rt, db) else {
         return Err(refused(ContentsCause::Failed));
     };
@@ -28,7 +28,7 @@ fn contents_path(rt: &HostRuntime, db: &str) -> Result<String, Fault> {
 }
 
 /// Creates the file with the mode of the database, and with its group and owner where this process may set them.
-fn create_like(rt: &HostRuntime, path: &str, db: &str) -> io::Result<()> {
+pub(crate) fn create_like(rt: &HostRuntime, path: &str, db: &str) -> io::Result<()> {
     let found = fs::metadata(rt, db)?;
     OpenOptions::new()
         .write(true)
@@ -98,7 +98,7 @@ pub(crate) fn fault_beside(fault: BesideFault) -> Fault {
 }
 
 /// Why a database is not served with this file.
-fn place_fault(fault: PlaceFault) -> Fault {
+pub(crate) fn place_fault(fault: PlaceFault) -> Fault {
     match fault {
         PlaceFault::Unreadable => refused(ContentsCause::NoPlace),
         PlaceFault::Overlapping => refused(ContentsCause::Overlapping),

@@ -6,6 +6,7 @@
 
 mod address;
 mod beside;
+mod copying;
 mod explaining;
 mod inputs;
 mod migrating;

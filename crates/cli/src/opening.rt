@@ -19,6 +19,9 @@ use std::rt::HostRuntime;
 use store::Store;
 use tables::{Layout, Migrated, OpenFault, Start, Storage};
 
+/// The tables of a database in a file.
+pub(crate) type FileTables<S> = tables::Store<FileStore<FileFrom<S>>>;
+
 /// The mode of a new database: only the user of the process may read it. Its log is made with the same mode.
 const MODE: u32 = 0o600;
 
@@ -82,7 +85,7 @@ fn layout_of<S: Storage>(
 /// Does the work with a database and its file of contents.
 fn work_beside<S: Start, D: Disk + Drop, J: Work, K: Sink>(
     rt: &HostRuntime,
-    rows: tables::Store<FileStore<FileFrom<S>>>,
+    rows: FileTables<S>,
     disk: D,
     work: J,
     output: &mut K,
@@ -143,15 +146,20 @@ pub(crate) enum Found {
 /// # Errors
 ///
 /// `UnknownSchema` if it has other tables, `Store` and `Memory`.
-pub(crate) fn migrate_at<S: Start>(rt: &HostRuntime, db: &str, start: S) -> Result<Found, Fault> {
+pub(crate) fn open_to_migrate<S: Start>(
+    rt: &HostRuntime,
+    db: &str,
+    start: S,
+) -> Result<(Found, FileTables<S>), Fault> {
     make_file(rt, db);
     let mut store = tables::Store::open_from(rt, db, start)?;
-    match refinement::migrate(rt.alloc(), &mut store) {
-        Ok(migrated) => Ok(Found::Rows(migrated)),
+    let found = match refinement::migrate(rt.alloc(), &mut store) {
+        Ok(migrated) => Found::Rows(migrated),
         Err(OpenFault::UnknownSchema) => {
             store.create_or_check(rt.alloc(), Layout::Places)?;
-            Ok(Found::Places)
+            Found::Places
         }
-        Err(fault) => Err(Fault::from(fault)),
-    }
+        Err(fault) => return Err(Fault::from(fault)),
+    };
+    Ok((found, store))
 }

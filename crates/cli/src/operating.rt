@@ -64,7 +64,6 @@ fn authenticate<S: Starts, K: Sink>(
     rt: &HostRuntime,
     files: &Files<'_>,
     asked: &TokenArgs<'_>,
-    destination: Destination,
     output: &mut K,
     start: S,
 ) -> Result<(), Fault>
@@ -76,7 +75,8 @@ fn authenticate<S: Starts, K: Sink>(
     let random = read_random(rt, files.random)?;
     let request = token_request(asked, repo, now, policy.token_seconds(), &random);
     let task = Task::Issue(&policy, request);
-    run_task(rt, files.db, &task, destination, output, start)
+    // The line has nothing that a terminal acts on.
+    run_task(rt, files.db, &task, Destination::Other, output, start)
 }
 
 /// Checks the paths of the input, and prints a verdict for each.
@@ -147,9 +147,7 @@ pub(crate) fn operate<S: Starts, R: Source, K: Sink>(
         return run_task(rt, files.db, &task, destination, output, start);
     }
     match command {
-        OperatorCommand::Authenticate(asked) => {
-            authenticate(rt, files, asked, destination, output, start)
-        }
+        OperatorCommand::Authenticate(asked) => authenticate(rt, files, asked, output, start),
         OperatorCommand::May(asked) => {
             let policy = read_policy(rt, files.policy)?;
             let task = Task::May(access_question(&policy, asked)?);

@@ -78,7 +78,7 @@ fn dispatch<S: Starts, R: Read, K: Sink, E: Write>(
         Command::Session(asked) => session(rt, asked, &mut Counted::new(input), output, start),
         Command::Serve(asked) => serve(rt, asked, manner.explains, output, errors, start),
         Command::Policy(asked) => policy_command(rt, asked, output),
-        Command::Migrate(db) => migrate(rt, db, output, start),
+        Command::Migrate(args) => migrate(rt, args, output, start),
         Command::Local(files, command) => {
             let input = &mut Counted::new(input);
             operate(rt, files, command, input, destination, output, start)

@@ -158,7 +158,7 @@ impl<C: Clock> ServeContext<'_, C> {
 
 /// The work of the command.
 #[derive(Drop)]
-struct Serving<'a, C, E> {
+struct ServeWork<'a, C, E> {
     context: &'a ServeContext<'a, C>,
     policy: Policy,
     listeners: Listeners<'a>,
@@ -167,7 +167,7 @@ struct Serving<'a, C, E> {
     stopped_by: &'a mut Option<OperatorStream>,
 }
 
-impl<C: Clock, E: Write> Work for Serving<'_, C, E> {
+impl<C: Clock, E: Write> Work for ServeWork<'_, C, E> {
     ghost leads = { λ work g old new world ended. ServesAll g work.policy old new world };
 
     fn layout(&self) -> Layout {
@@ -183,7 +183,7 @@ impl<C: Clock, E: Write> Work for Serving<'_, C, E> {
     }
 
     fn run<S: Store, K: Sink>(self, store: &mut S, output: &mut K) -> Result<(), Fault> {
-        let Serving {
+        let ServeWork {
             context,
             policy,
             listeners,
@@ -222,7 +222,7 @@ fn serve_bound<C: Clock, S: Starts, K: Sink, E: Write>(
         explains,
     };
     let mut operator = None;
-    let serving = Serving {
+    let serving = ServeWork {
         context: &context,
         policy,
         listeners,

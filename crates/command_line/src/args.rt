@@ -43,8 +43,8 @@ pub enum Command<'a> {
     Serve(ServeArgs<'a>),
     /// The command `policy`.
     Policy(PolicyArgs<'a>),
-    /// The command `migrate`, with its database file.
-    Migrate(&'a str),
+    /// The command `migrate`.
+    Migrate(MigrateArgs<'a>),
     /// A command of an operator, over these files.
     Local(Files<'a>, OperatorCommand<'a>),
     /// A command of an operator, which the server at this socket runs.
@@ -129,6 +129,26 @@ pub struct ServeArgs<'a> {
     pub control: Option<&'a str>,
     /// Whether a new database has contents in a file beside it.
     pub contents: bool,
+}
+
+/// Where a database has the contents of objects once it is migrated.
+#[derive(Clone, Copy, Debug, PartialEq, Eq)]
+pub enum Target {
+    /// Where it has them.
+    AsItIs,
+    /// In a file.
+    File,
+    /// In rows.
+    Rows,
+}
+
+/// The arguments of `migrate`.
+#[derive(Clone, Copy, Debug)]
+pub struct MigrateArgs<'a> {
+    /// The database file.
+    pub db: &'a str,
+    /// Where it has the contents of objects afterwards.
+    pub target: Target,
 }
 
 /// The arguments of `authenticate`.
@@ -432,6 +452,19 @@ fn operator_command_of<'a>(
     })
 }
 
+fn migrate_args<'a>(matches: &ArgMatches<'a>) -> Result<MigrateArgs<'a>, ArgsFault> {
+    let target = match (matches.get_flag("contents"), matches.get_flag("chunks")) {
+        (false, false) => Target::AsItIs,
+        (true, false) => Target::File,
+        (false, true) => Target::Rows,
+        (true, true) => return Err(ArgsFault::Value("--chunks")),
+    };
+    Ok(MigrateArgs {
+        db: value_of(matches, "db"),
+        target,
+    })
+}
+
 /// The files of a command.
 fn files_of<'a>(matches: &ArgMatches<'a>) -> Files<'a> {
     Files {
@@ -454,7 +487,7 @@ fn command_of<'a>(
         "session" => return Ok(Some(Command::Session(session_args(matches)?))),
         "serve" => return Ok(Some(Command::Serve(serve_args(matches)?))),
         "policy" => return Ok(Some(Command::Policy(policy_args(alloc, matches)?))),
-        "migrate" => return Ok(Some(Command::Migrate(value_of(matches, "db")))),
+        "migrate" => return Ok(Some(Command::Migrate(migrate_args(matches)?))),
         _ => {}
     }
     if let Some(command) = server_command_of(name, matches)? {

@@ -68,18 +68,26 @@ it: a row that one earlier row covers is never reached.
 No database is opened. The status is 0 if the file has no fault and the question is allowed, 1 if the file was \
 refused or the question is denied, and 2 if the arguments are wrong.";
 
-const MIGRATE_ABOUT: &str = "Gives a database of version 1 the tables of version 2, once";
+const MIGRATE_ABOUT: &str =
+    "Gives a database of version 1 the tables of version 2, or moves the contents of objects";
 
 const MIGRATE_LONG_ABOUT: &str = "\
-Gives a database of version 1 the tables of version 2, once.
+Gives a database of version 1 the tables of version 2, once; with --contents or --chunks, moves the contents of objects \
+into a file beside the database, or back.
 
 Every other command refuses a database of version 1 with \"store G1\". This one adds the table of removed \
 objects, and keeps each token, object and lock as it is. It is done at once: if it is interrupted, the \
 database has version 1 or version 2, and the command can be run again. Copy the database and its log first: \
 there is no way back.
 
-It prints \"migrated from version 1\", \"already version 2\" or \"already version 3\". If the error stream is a \
-terminal, it shows that the command works. No server may have the database open.
+With --contents the database gets version 3, and contents are in FILE-contents; with --chunks it gets version 2 again, \
+and they are in the database. Only one of the two may be given. The database is copied into new files beside it, \
+FILE-moving and FILE-moving-contents, which need as much room again. They take its names once all of both was compared: \
+nothing of it is changed before that. If the command is interrupted, the same command continues it.
+
+It prints \"migrated from version 1\", \"already version 2\" or \"already version 3\"; or, after a move, a line as \
+\"migrated from version 2, 12 objects\". If the error stream is a terminal, it shows how far it is. No server may have \
+the database open.
 
 The status is 0 if the database then has version 2 or 3, 1 if something was refused, and 2 if the arguments are wrong.";
 
@@ -144,6 +152,20 @@ const CONTENTS: Parameter = Parameter {
     name: "contents",
     value_name: "",
     help: "Makes a new database with a file beside it, FILE-contents, for the contents of objects",
+    kind: Kind::Switch,
+};
+
+const MOVED: Parameter = Parameter {
+    name: "contents",
+    value_name: "",
+    help: "Copies the contents of objects into a file beside the database",
+    kind: Kind::Switch,
+};
+
+const CHUNKS: Parameter = Parameter {
+    name: "chunks",
+    value_name: "",
+    help: "Copies the contents of objects back into the database",
     kind: Kind::Switch,
 };
 
@@ -220,10 +242,10 @@ const POLICY_COMMAND: CommandText = CommandText {
 
 const MIGRATE: CommandText = CommandText {
     name: "migrate",
-    usage: "custody migrate --db FILE [--explain]",
+    usage: "custody migrate --db FILE [--contents] [--chunks] [--explain]",
     about: MIGRATE_ABOUT,
     long_about: MIGRATE_LONG_ABOUT,
-    parameters: &[DB],
+    parameters: &[DB, MOVED, CHUNKS],
     example: "Example:\n  custody migrate --db film.db",
 };
 

@@ -15,8 +15,8 @@ mod server_commands;
 mod words;
 
 pub use args::{
-    Command, Files, ForeseeArgs, MayArgs, OperatorCommand, PushArgs, RetireArgs, ServeArgs,
-    SessionArgs, TokenArgs, TokensArgs, read_args,
+    Command, Files, ForeseeArgs, MayArgs, MigrateArgs, OperatorCommand, PushArgs, RetireArgs,
+    ServeArgs, SessionArgs, Target, TokenArgs, TokensArgs, read_args,
 };
 pub use faults::ArgsFault;
 pub use flags::{is_given, with_server};

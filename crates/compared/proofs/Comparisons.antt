@@ -1,4 +1,4 @@
--- Two stores that are only read, and what is said of the tables of both.
+-- Two stores that are only read, and what is said of the tables of both; for proofs in other crates too.
 use Rattle.std.proofs.Common.{◌≡◌, ◌∙◌, ℕ, ◌+◌, ◌<◌, pos, Bool, true, false, not, List, [], map, filter, find, length, slice_index_or, Option, option_map, Result, Ok, Err, IfOk, Vec, Global, IsPermutation, ◌≤◌, refl, sym, ap, subst, arith}
 use Rattle.std.proofs.Math.Logic.{⊎_elim}
 use Rattle.std.specs.Bool.{Decides}

@@ -1,4 +1,4 @@
--- Lists of rows, compared row by row.
+-- Lists of rows, compared row by row; for proofs in other crates too.
 use Rattle.std.proofs.Common.{Option, Some, None, [], ◌∷◌, map, zero, suc, refl, ap, ap₂, ◌≡◌, ◌∙◌, ℕ, ◌+◌, ◌<◌, inl, inr, ◌⊎◌, List, length, slice_index_or, arith, sym, subst}
 use Rattle.std.proofs.lemmas.Bool.{cases_eq}
 use Rattle.std.proofs.lemmas.List.{get_or_default}

@@ -1,4 +1,4 @@
--- Calls that only read, of one store and of two.
+-- Calls that only read, of one store and of two; for proofs in other crates too.
 use Rattle.std.proofs.Common.{subst, Ok}
 use Rattle.tables.specs.Rows.{Tables}
 use Rattle.store.specs.declared.state.State.{Ghosts}

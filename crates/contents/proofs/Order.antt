@@ -1,12 +1,14 @@
 -- Regions that follow each other.
-use Rattle.std.proofs.Common.{◌≡◌, inl, inr, ℕ, ◌+◌, ◌-◌, ◌<◌, ◌≤◌, List, [], ◌∷◌, ◌++◌, length, Bool, true, false, if◌then◌else◌, suc, arith, refl, sym, ap, subst, ◌∙◌, take, drop, slice_index_or, HoldsAt, insert, remove, IsPermutation}
+use Rattle.std.proofs.Common.{◌≡◌, inl, inr, ℕ, ◌+◌, ◌-◌, ◌<◌, ◌≤◌, List, [], ◌∷◌, ◌++◌, length, Bool, true, false, if◌then◌else◌, suc, arith, refl, sym, ap, subst, ◌∙◌, take, drop, slice_index_or, HoldsAt, insert, remove, sum_by, zero, take_all, All, IsPermutation}
+use Rattle.std.specs.List.{AllPairs}
 use Rattle.std.proofs.Math.Seq.{drop-cons}
 use Rattle.std.proofs.lemmas.Bool.{cases_lt}
-use Rattle.std.proofs.lemmas.List.{take-append-drop}
+use Rattle.std.proofs.lemmas.List.{take-append-drop, take_more}
 use Rattle.std.proofs.lemmas.List.Edits.{get_or-insert_below, get_or-insert_at, get_or-insert_above, length-insert}
 use Rattle.std.proofs.lemmas.List.Quantifiers.{all_pairs_push, all_pairs_remove}
 use Rattle.std.proofs.lemmas.List.Sorted.{IsPermutation-middle, IsPermutation-insert, All-permutation}
 use Rattle.std.proofs.lemmas.List.Elements.{All-cons, All-push}
+use Rattle.std.proofs.lemmas.List.Sums.{sum_by_push}
 use Rattle.contents.specs.declared.region.Region.{Region}
 use Rattle.contents.specs.Regions.{AreInOrder, FitsAfter, EndsBefore, IsGap, IsReserved, end_of, largest_end}
 
@@ -90,3 +92,37 @@ module _ (old : List Region) (n index start : ℕ) (was : AreInOrder old) (gap :
     lowest = gap.lowest;
     used = IsPermutation-insert old index region;
   }
+
+-- the bytes of the first n of these regions
+abbrev pub sum_of : ℕ → List Region → ℕ
+sum_of n regions = sum_by (λ (region : Region). region.size) (take n regions)
+
+-- those of one more
+pub one_more : (regions : List Region) (d : Region) (n : ℕ) → n < length regions
+    → sum_of (n + 1) regions ≡ sum_of n regions + (slice_index_or regions n d).size
+one_more regions d n less =
+    ap (sum_by (λ (region : Region). region.size)) (take_more regions n d less)
+    ∙ sum_by_push (λ (region : Region). region.size) (take n regions) (slice_index_or regions n d)
+
+-- the first n regions, which all end at b or before it, have at most b bytes
+bytes_before : (regions : List Region) → AllPairs EndsBefore regions → (d : Region) (n : ℕ) → n ≤ length regions
+    → (b : ℕ) → ((k : ℕ) → k < n → end_of (slice_index_or regions k d) ≤ b) → sum_of n regions ≤ b
+bytes_before regions order d zero le b each = omega arith
+bytes_before regions order d (suc n) le b each =
+    let before = bytes_before regions order d n (omega arith) (slice_index_or regions n d).start (λ k less. order k n d less (omega arith)) in
+    let last = each n (omega arith) in
+    let more = one_more regions d n (omega arith) in
+    let same : suc n ≡ n + 1 = omega arith in
+    rw same (omega arith)
+
+-- so a file may have as many
+pub sum_fits : (regions : List Region) (d : Region) (n : ℕ) → AreInOrder regions → n ≤ length regions → sum_of n regions ≤ largest_end
+sum_fits regions d n was le = bytes_before regions was.order d n le largest_end (λ k less. was.within k d (omega arith))
+
+-- the bytes of regions that end here or before are no more
+pub sum_within : (regions : List Region) (b : ℕ) → AreInOrder regions → All (λ (it : Region). end_of it ≤ b) regions
+    → sum_by (λ (it : Region). it.size) regions ≤ b
+sum_within regions b was each =
+    let d : Region = record { start = 0; size = 0 } in
+    let less = bytes_before regions was.order d (length regions) (omega arith) b (λ k less. each k d less) in
+    subst (λ n. n ≤ b) (ap (sum_by (λ (it : Region). it.size)) (take_all (length regions) regions (omega arith))) less

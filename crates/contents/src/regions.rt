@@ -1,6 +1,6 @@
 //! The regions of a file that are in use, and room for new ones.
 
-ghost use Rattle.std.specs.Prelude.{◌≡◌, ◌≤◌, ◌<◌, ◌+◌, ◌++◌, ◌∷◌, [], ℕ, List, length, All, Contains, HoldsAt, IsPermutation, MatchBool, MatchOption, MatchResult, IfOk, IfSome, IfNone, OnErr};
+ghost use Rattle.std.specs.Prelude.{◌≡◌, ◌≤◌, ◌<◌, ◌+◌, ◌++◌, ◌∷◌, [], ℕ, List, length, All, Contains, HoldsAt, IsPermutation, sum_by, MatchBool, MatchOption, MatchResult, IfOk, IfSome, IfNone, OnErr};
 ghost use Rattle.contents.specs.Regions.{AreInOrder, IsFreeRoom, IsLastEnd, IsReserved, HasNoRoom, FitsAfter, IsGap, end_of, largest_end};
 
 use crate::region::Region;
@@ -45,6 +45,25 @@ impl Regions {
             Some(last) => last.start + last.size,
             None => 0,
         }
+    }
+
+    /// The number of bytes that are in use.
+    pub fn total(&self) -> u64
+        ensures { result ≡ sum_by (λ region. region.size) (regions_of self.now) }
+    {
+        let mut total: u64 = 0;
+        for region in &self.items {
+            total += region.size;
+        }
+        total
+    }
+
+    /// The number of bytes that are not in use before the end of the last region.
+    pub fn free(&self) -> u64
+        ensures { IsLastEnd (regions_of self.now)
+            (sum_by (λ region. region.size) (regions_of self.now) + result) }
+    {
+        self.end() - self.total()
     }
 
     /// Adds a region after all others; `false`, and nothing changes, exactly if it begins before the last one has ended,

@@ -17,4 +17,6 @@ pub enum ContentsCause {
     NoPlace,
     /// It could not be opened, read or synced.
     Failed,
+    /// An object that is to be copied into it has fewer or more bytes than its size says.
+    Damaged,
 }

@@ -4,6 +4,7 @@ use policy::Repo;
 use service::{End, Served};
 use std::alloc::{AllocError, Global};
 use std::time::{Duration, Instant};
+use store::Room;
 
 /// What the machine of a server knows of it.
 #[derive(Clone, Copy)]
@@ -298,8 +299,25 @@ impl Metrics {
         self.value_of(name, "result", "refused", counts.refused)
     }
 
+    /// Adds how the file of contents is filled.
+    fn room(&mut self, room: Room) -> Result<(), AllocError> {
+        let name = "custody_contents_bytes";
+        self.describe(
+            name,
+            "gauge",
+            "Bytes of the file of contents, by their state.",
+        )?;
+        self.value_of(name, "state", "kept", room.kept)?;
+        self.value_of(name, "state", "free", room.free)
+    }
+
     /// Adds what the machine knows.
-    fn gauges(&mut self, counts: &Counts, gauges: &Gauges) -> Result<(), AllocError> {
+    fn gauges(
+        &mut self,
+        counts: &Counts,
+        gauges: &Gauges,
+        room: Option<Room>,
+    ) -> Result<(), AllocError> {
         let name = "custody_waiting_connections";
         let help = "Connections whose request waits for its turn.";
         self.number(name, "gauge", help, gauges.waiting as u64)?;
@@ -316,6 +334,9 @@ impl Metrics {
         self.describe(name, "gauge", "Sizes of the files of the database.")?;
         self.value_of(name, "file", "database", gauges.database)?;
         self.value_of(name, "file", "log", gauges.log)?;
+        if let Some(room) = room {
+            self.value_of(name, "file", "contents", room.size)?;
+        }
         let name = "process_resident_memory_bytes";
         self.number(
             name,
@@ -335,11 +356,15 @@ pub fn status_text(
     alloc: Global,
     counts: &Counts,
     gauges: &Gauges,
+    room: Option<Room>,
     all: &[Stored<'_>],
 ) -> Result<String, AllocError> {
     let mut metrics = Metrics::new(alloc);
     metrics.counts(counts)?;
-    metrics.gauges(counts, gauges)?;
+    metrics.gauges(counts, gauges, room)?;
+    if let Some(room) = room {
+        metrics.room(room)?;
+    }
     metrics.repositories(all, RepositoryValue::Used)?;
     metrics.repositories(all, RepositoryValue::Quota)?;
     metrics.repositories(all, RepositoryValue::LocksMade)?;

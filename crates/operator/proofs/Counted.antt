@@ -1,6 +1,6 @@
 -- What a repository uses, by the rows that the calls return.
 use Rattle.operator.proofs.Prelude.{◌≡◌, ◌∙◌, ℕ, List, [], ◌∷◌, ◌++◌, Result, Ok, Err, IfOk, refl, sym, ap, subst, true, false, length, World, Reads, reads_then, ⊤, Ghosts, repo_text, UploadRow}
-use Rattle.std.proofs.Common.{Bool, IsErrAnd, pos, suc, ◌+◌, ◌<◌, map, filter, take, cond, get_or, Some, option_map, bytes_eq}
+use Rattle.std.proofs.Common.{Bool, IsErrAnd, Option, pos, suc, ◌+◌, ◌<◌, map, filter, take, cond, get_or, Some, option_map, bytes_eq}
 use Rattle.std.specs.List.{AllZip}
 use Rattle.std.proofs.lemmas.List.{length-map, take_more}
 use Rattle.std.proofs.lemmas.List.Sorted.{length_permutation}
@@ -11,7 +11,10 @@ use Rattle.model.specs.World.{Object}
 use Rattle.model.specs.Orders.{insert_by, sort_by, text_before}
 use Rattle.model.specs.RepoState.{ObjectSize, object_size, objects_of}
 use Rattle.tables.specs.Rows.{Tables}
-use Rattle.store.specs.Shown.{HasTables}
+use Rattle.store.specs.Shown.{AddsNothing, HasTables, IsHonest, Moves}
+use Rattle.store.specs.declared.room.Room.{Room}
+use Rattle.tables.specs.declared.fault.StoreFault.{StoreFault}
+use Rattle.refinement.proofs.ReadOnly.{reads_same}
 use Rattle.refinement.proofs.Holding.{holds_still}
 use Rattle.refinement.specs.Left.{KeepsTables}
 use Rattle.uploads.specs.Listing.{IsRowOf, Lists}
@@ -94,3 +97,14 @@ module _ {S : Type 0} (g : Ghosts S) where
   lines_viewed s world now [] (l ∷ ls) all = absurd all
   lines_viewed s world now (r ∷ rs) [] all = absurd all
   lines_viewed s world now (r ∷ rs) (l ∷ ls) all = (all.0, lines_viewed s world now rs ls all.1)
+
+  -- what a call says of the file of contents, which leaves the tables
+  pub room_read : (a b : S) (found : Result (Option Room) StoreFault) → Moves g (λ t. t) a b → AddsNothing g a b
+      → (IsHonest g b → IfOk found (λ room. g.has_room a room)) → Reads g a b (λ _. IfOk found (λ room. g.has_room a room))
+  room_read a b found same adds says = reads_same g a b (IfOk found (λ room. g.has_room a room)) same adds says
+
+  -- the same, before another call that reads
+  pub room_then : (a b c : S) (found : Result (Option Room) StoreFault) (Q : World → Type 0) → Moves g (λ t. t) a b → AddsNothing g a b
+      → (IsHonest g b → IfOk found (λ room. g.has_room a room)) → Reads g b c Q
+      → Reads g a c (λ world. IfOk found (λ room. g.has_room a room) × Q world)
+  room_then a b c found Q same adds says q = reads_then g a b c _ _ _ (λ world laws p q. (p, q)) (room_read a b found same adds says) q

@@ -2,6 +2,7 @@
 use Rattle.std.specs.Prelude.{◌≡◌, ℕ, ℤ, pos, ◌*◌, ◌/◌, ◌==◌, ◌++◌, List, [], ◌∷◌, length, find, Option, Some, None, option_map, if◌then◌else◌, codes, decimal}
 use Rattle.std.specs.List.{AllZip}
 use Rattle.store.specs.declared.state.State.{Ghosts}
+use Rattle.store.specs.declared.room.Room.{Room}
 use Rattle.policy.specs.Values.{repo_view}
 use Rattle.policy.specs.declared.repos.Repo.{Repo}
 use Rattle.model.specs.Policy as model
@@ -11,6 +12,7 @@ use Rattle.tables.specs.Rows.{Tables}
 use Rattle.store.specs.Shown.{IsHonest, IsOpen, shown}
 use Rattle.tables.specs.Statements.{is_staged_in}
 use Rattle.operator.specs.Columns.{table_lines}
+use Rattle.operator.specs.Listed.{line}
 use Rattle.operator.specs.Tokens.{valid_in}
 use Rattle.operator.specs.declared.counting.Usage.{Usage}
 
@@ -46,14 +48,14 @@ share_text (Some percent) = decimal percent ++ codes "%"
 share_text None = codes "-"
 
 -- the text of the size of an upload, if there is one
-abbrev pub size_text : Option ℕ → List ℕ
-size_text (Some size) = decimal size
-size_text None = codes "-"
+abbrev pub staged_text : Option ℕ → List ℕ
+staged_text (Some size) = decimal size
+staged_text None = codes "-"
 
 -- the texts in the line of a repository
 abbrev pub usage_cells : (repo : List ℕ) (quota : ℕ) → Usage → List (List ℕ)
 usage_cells repo quota u =
-    repo ∷ decimal u.objects ∷ decimal u.bytes ∷ decimal quota ∷ share_text (share u.bytes quota) ∷ size_text u.staged
+    repo ∷ decimal u.objects ∷ decimal u.bytes ∷ decimal quota ∷ share_text (share u.bytes quota) ∷ staged_text u.staged
     ∷ decimal u.locks ∷ decimal u.tokens ∷ []
 
 -- the texts are those in the line of the repository, by what it uses
@@ -71,7 +73,19 @@ usage_headings =
     codes "repository" ∷ codes "objects" ∷ codes "bytes" ∷ codes "quota" ∷ codes "share" ∷ codes "staged" ∷ codes "locks"
     ∷ codes "tokens" ∷ []
 
--- the table of what each of the repositories uses, in their order
-abbrev pub ListsUsage : {S : Type 0} (g : Ghosts S) → World → S → (now : ℕ) → List model.Repo → List ℕ → Type 0
-ListsUsage g world s now repos text =
-    (rows : List (List (List ℕ))) × AllZip (IsLine g world s now) repos rows × (text ≡ table_lines usage_headings rows)
+-- how a file of contents is filled: how many bytes are kept and free in it, and its size
+abbrev pub room_line : Room → List ℕ
+room_line room =
+    codes "contents: " ++ decimal room.kept ++ codes " kept, " ++ decimal room.free ++ codes " free, " ++ decimal room.size
+    ++ codes " in the file"
+
+-- the line of a file of contents, if there is one
+abbrev pub room_lines : Option Room → List ℕ
+room_lines (Some room) = line (room_line room)
+room_lines None = []
+
+-- the table of what each of the repositories uses, in their order, and then how the file of contents was filled
+abbrev pub ListsUsage : {S : Type 0} (g : Ghosts S) → World → (old new : S) → (now : ℕ) → List model.Repo → List ℕ → Type 0
+ListsUsage g world old new now repos text =
+    (rows : List (List (List ℕ))) × AllZip (IsLine g world new now) repos rows
+    × (room : Option Room) × g.has_room old room × (text ≡ table_lines usage_headings rows ++ room_lines room)

@@ -1,6 +1,11 @@
 -- A content in pieces: with one more at the end, each found by its number, and without those from a number on.
 use Rattle.placed.proofs.Prelude.{◌≡◌, ℕ, zero, suc, ◌+◌, ◌*◌, ◌<◌, ◌≤◌, ℤ, pos, true, false, not, arith, refl, sym, ap, ◌∙◌, List, [], ◌∷◌, ◌++◌, length, take, drop, find, filter, Some, None, int_eq, ints, take_all, take-append-le, take-take, length-drop, length-append, Chunk, is_chunk, is_of_from, asked_chunk, piece_size, cut_into, pieces}
 use Rattle.std.proofs.Common.{int_le}
+use Rattle.std.proofs.Common.{add-one, map}
+use Rattle.std.proofs.lemmas.Grind.{div_ceil_times}
+use Rattle.std.specs.List.{range_with_len}
+use Rattle.tables.specs.Listing.{KeyFields, key_fields}
+use Rattle.placed.specs.Keys.{key_of, piece_count, piece_keys}
 use Rattle.std.proofs.lemmas.List.{drop_all, drop-append-le, drop-take, length-take, drop-drop}
 
 -- ---- numbers
@@ -102,6 +107,21 @@ module _ (s : ℕ) (some : 0 < s) (id : ℤ) where
       let rest = parts_lacks n (suc k) m (drop s (byte ∷ bytes)) (omega arith) (omega arith) in
       rw (parts_some k (byte ∷ bytes) (omega arith)) (rw (same_id id) (rw (other_number k m (omega arith)) rest))
 
+  -- the keys of n pieces, the first with the number k
+  keys_from : ℕ → ℕ → List KeyFields
+  keys_from k n = map (key_of id) (range_with_len k n)
+
+  parts_keys : (n k : ℕ) (bytes : List ℕ) → length bytes ≤ n * s → n * s < length bytes + s
+      → map key_fields (parts k bytes) ≡ keys_from k n
+  unfolding keys_from
+  parts_keys zero k bytes most least = rw (none_of s bytes most) (rw (parts_none k) refl)
+  parts_keys (suc n) k bytes most least =
+      let same = product n s in
+      let left = length-drop s bytes in
+      let rest = parts_keys n (suc k) (drop s bytes) (omega arith) (omega arith) in
+      ap (map key_fields) (parts_some k bytes (omega arith))
+      ∙ ap (λ keys. key_of id k ∷ keys) (rest ∙ ap (λ j. map (key_of id) (range_with_len j n)) (sym (add-one k)))
+
   -- ---- without the pieces from a number on
 
   kept : ℕ → List Chunk → List Chunk
@@ -187,3 +207,10 @@ pub pieces_shortened : (id : ℤ) (n : ℕ) (bytes : List ℕ)
     → filter (λ c. not (is_of_from id (pos n) c)) (pieces id bytes) ≡ pieces id (take (n * piece_size) bytes)
 unfolding pieces parts kept
 pieces_shortened id n bytes = parts_shortened piece_size some_size id n 0 n bytes (omega arith)
+
+-- the keys of the pieces of n bytes
+pub pieces_keys : (id : ℤ) (bytes : List ℕ) (n : ℕ) → length bytes ≡ n → map key_fields (pieces id bytes) ≡ piece_keys id n
+unfolding pieces parts keys_from
+pieces_keys id bytes n size =
+    let rounded = div_ceil_times n piece_size some_size in
+    parts_keys piece_size some_size id (piece_count n) 0 bytes (omega (arith, rounded.0, size)) (omega (arith, rounded.1, size))

@@ -36,3 +36,4 @@ pub mod Cleared
 pub mod Named
 pub mod Sorting
 pub mod Opened
+pub mod ListedKeys

@@ -208,7 +208,7 @@ module _ {T D : Type 0} (g : Ghosts T) (d : disk.Ghosts D) (s : Placed T D) wher
     abbrev pub counted : Placed T D
     counted = record s { disk = disk; unsynced = unsynced }
 
-    counted_moves : Moves (beside g d) (λ t. t) s counted
+    pub counted_moves : Moves (beside g d) (λ t. t) s counted
     counted_moves = still_with s.rows disk same s.regions s.staged unsynced (λ r used. used) refl (moves_none g s.rows) (nothing_none g s.rows)
 
     counted_nothing : AddsNothing (beside g d) s counted

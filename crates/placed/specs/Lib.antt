@@ -8,3 +8,4 @@ pub mod Seeking
 pub mod Altered
 pub mod Freed
 pub mod Opening
+pub mod Keys

@@ -1,9 +1,13 @@
 -- A database with a file of contents as a store.
-use Rattle.std.specs.Prelude.{◌≡◌, ℕ, List, [], IsTrue}
+use Rattle.std.specs.Prelude.{◌≡◌, ◌+◌, ◌&&◌, ℕ, List, [], length, sum_by, Some, IsTrue}
 use Rattle.std.specs.List.{AllByRecursion}
 use Rattle.sqlite_disk.specs.declared.Disk as disk
+use Rattle.contents.specs.declared.region.Region.{Region}
+use Rattle.contents.specs.Regions.{IsLastEnd}
+use Rattle.contents.specs.InUse.{regions_of}
 use Rattle.tables.specs.Rows.{Tables}
 use Rattle.store.specs.declared.state.State.{Ghosts}
+use Rattle.store.specs.declared.room.Room.{Room}
 use Rattle.store.specs.Normal.{settled}
 use Rattle.store.specs.Shown.{IsHonest, IsOpen, HasTables, Leaves, shown}
 use Rattle.placed.specs.declared.placed.Placed.{Placed}
@@ -56,6 +60,13 @@ module _ {T D : Type 0} (g : Ghosts T) (d : disk.Ghosts D) where
     pub by_file : d.may_leave s.disk file
     pub is : t ≡ settled (view file [] rows)
 
+  -- the room of the file: the bytes of the regions that are in use, what is free before the end of the last of them, and
+  -- the size of the file
+  pub record IsRoomOf (s : Placed T D) (room : Room) : Type 0 where
+    pub kept : room.kept ≡ sum_by (λ (region : Region). region.size) (regions_of s.regions)
+    pub free : IsLastEnd (regions_of s.regions) (room.kept + room.free)
+    pub size : room.size ≡ length (d.seen s.disk)
+
   -- what such a store is to the contracts of its calls
   abbrev pub beside : Ghosts (Placed T D)
   beside = record {
@@ -65,4 +76,6 @@ module _ {T D : Type 0} (g : Ghosts T) (d : disk.Ghosts D) where
     shown = shown_with;
     leaves = LeavesWith;
     is_safe = λ s. g.is_safe s.rows;
+    is_usable = λ s. g.is_usable s.rows && d.is_usable s.disk;
+    has_room = λ s found. (room : Room) × (found ≡ Some room) × IsRoomOf s room;
   }

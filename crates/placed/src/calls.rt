@@ -6,13 +6,31 @@ use crate::reading::read_piece;
 use names::{LockId, LockPath, Moment, Oid, RefName, RepoName, Size, UserName};
 use sqlite_disk::Disk;
 use std::alloc::Global;
-use store::{ChunkContent, Store};
+use store::{ChunkContent, Room, Store};
 use tables::{
     Completion, Creation, LastChunk, LockRow, NewLock, NewToken, NewUpload, ObjectRow, StoreFault,
     TokenRow, UploadId, UploadRow,
 };
 
 impl<T: Store, D: Disk> Store for Placed<T, D> {
+    fn may_be_used(&self) -> bool {
+        self.rows.may_be_used() && self.disk.may_be_used()
+    }
+
+    fn room(&mut self) -> Result<Option<Room>, StoreFault> {
+        if !self.disk.may_be_used() {
+            return Err(StoreFault::Refused);
+        }
+        let Ok(size) = self.disk.len() else {
+            return Err(StoreFault::Refused);
+        };
+        Ok(Some(Room {
+            kept: self.regions.total(),
+            free: self.regions.free(),
+            size: size as u64,
+        }))
+    }
+
     fn made(&mut self, repo: &RepoName) -> Result<u32, StoreFault> {
         self.rows.made(repo)
     }

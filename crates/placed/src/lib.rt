@@ -5,6 +5,7 @@ mod beginning;
 mod calls;
 mod completing;
 mod fault;
+mod listed;
 mod opening;
 mod place;
 mod placed;
@@ -14,4 +15,5 @@ mod removal;
 mod staged;
 
 pub use fault::PlaceFault;
+pub use place::{PLACE_NUMBER, place_of, region_in};
 pub use placed::Placed;

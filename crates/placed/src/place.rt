@@ -7,10 +7,10 @@ use contents::Region;
 use std::alloc::{AllocError, Global};
 
 /// The number of such a row, which no piece of a content has.
-pub(crate) const PLACE_NUMBER: u32 = 4_294_967_295;
+pub const PLACE_NUMBER: u32 = 4_294_967_295;
 
 /// The bytes of the row for a region.
-pub(crate) fn place_of(alloc: Global, region: Region) -> Result<Vec<u8>, AllocError>
+pub fn place_of(alloc: Global, region: Region) -> Result<Vec<u8>, AllocError>
     ensures { IfOk result (λ bytes. bytes.items ≡ place_of region) }
 {
     let mut bytes = Vec::with_capacity(alloc, 16)?;
@@ -20,7 +20,7 @@ pub(crate) fn place_of(alloc: Global, region: Region) -> Result<Vec<u8>, AllocEr
 }
 
 /// The region that the bytes of a row mean.
-pub(crate) fn region_in(bytes: &[u8]) -> Option<Region>
+pub fn region_in(bytes: &[u8]) -> Option<Region>
     ensures { result ≡ region_in bytes.now }
 {
     if bytes.len() != 16 {

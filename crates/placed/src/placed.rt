@@ -71,4 +71,8 @@ impl<T: Store, D: Disk> State for Placed<T, D> {
     ghost leaves = { (beside T.State D.Disk).leaves };
 
     ghost is_safe = { (beside T.State D.Disk).is_safe };
+
+    ghost is_usable = { (beside T.State D.Disk).is_usable };
+
+    ghost has_room = { (beside T.State D.Disk).has_room };
 }

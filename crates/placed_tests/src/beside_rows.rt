@@ -39,7 +39,7 @@ pub(crate) fn begun(rt: &impl Tester, store: &mut impl Store, name: &str, len: u
 }
 
 /// Completes an upload of `len` bytes whose last chunk is `last`.
-fn completed(
+pub(crate) fn completed(
     rt: &impl Tester,
     store: &mut impl Store,
     id: UploadId,

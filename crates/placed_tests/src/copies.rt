@@ -16,7 +16,7 @@ const GAME: &str = "studio/game";
 
 /// Adds a lock, a token, and an upload of each kind: one that is retired, an object, and a staged one. Returns the
 /// object's id.
-fn fill(rt: &impl Tester, store: &mut impl Store) -> UploadId {
+pub(crate) fn fill(rt: &impl Tester, store: &mut impl Store) -> UploadId {
     let (film, ann) = (repo(rt, FILM), user(rt, "ann"));
     let lock = NewLock {
         repo: &film,
@@ -54,7 +54,7 @@ fn copy_lock(rt: &impl Tester, to: &mut impl Restored, row: RepoLock) {
 }
 
 /// Copies an object with its first chunk.
-fn copy_object(
+pub(crate) fn copy_object(
     rt: &impl Tester,
     from: &mut impl Listed,
     to: &mut impl Restored,
@@ -128,7 +128,12 @@ fn copy_objects(rt: &impl Tester, from: &mut impl Listed, to: &mut impl Restored
 }
 
 /// Asserts whether the two are the same.
-fn expect_same(rt: &impl Tester, from: &mut impl Listed, to: &mut impl Listed, same: bool) {
+pub(crate) fn expect_same(
+    rt: &impl Tester,
+    from: &mut impl Listed,
+    to: &mut impl Listed,
+    same: bool,
+) {
     assert!(rt; unwrap(rt, is_same(rt.alloc(), from, to)) == same);
 }
 

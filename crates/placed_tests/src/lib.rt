@@ -1,4 +1,4 @@
-//! Tests of `placed` and `reopened`, through their public items, over a database and a file in memory.
+//! Tests of `placed`, `reopened`, `compared` and `moving`, through their public items, over a database and a file in memory.
 #![tactic(auto)]
 
 #[cfg(test)]
@@ -10,6 +10,10 @@ mod harness;
 #[cfg(test)]
 mod layouts;
 #[cfg(test)]
+mod moved;
+#[cfg(test)]
 mod opened;
+#[cfg(test)]
+mod rooms;
 #[cfg(test)]
 mod started;

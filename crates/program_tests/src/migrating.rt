@@ -136,6 +136,75 @@ fn a_database_of_version_1_is_migrated_once(rt: HostRuntime) {
     perform(&rt, &rt, "migrated", POLICY, OLD);
 }
 
+/// A database whose contents are moved into a file and back.
+const MOVED: &str = r#"
+# a database of version 1, with an object, a lock and a token of ann, and an upload that was not completed
+sql CREATE TABLE meta (one INTEGER PRIMARY KEY CHECK (one = 1), version INTEGER NOT NULL CHECK (version = 1)) STRICT
+sql CREATE TABLE repos (name TEXT NOT NULL PRIMARY KEY, made INTEGER NOT NULL CHECK (made >= 0 AND made <= 4294967295), used INTEGER NOT NULL CHECK (used >= 0)) STRICT
+sql CREATE TABLE tokens (digest BLOB NOT NULL PRIMARY KEY, user TEXT NOT NULL, repo TEXT NOT NULL, op INTEGER NOT NULL CHECK (op >= 1 AND op <= 2), expires INTEGER NOT NULL) STRICT
+sql CREATE TABLE uploads (id INTEGER PRIMARY KEY AUTOINCREMENT, repo TEXT NOT NULL, oid TEXT NOT NULL, size INTEGER NOT NULL, done INTEGER NOT NULL CHECK (done >= 0 AND done <= 1), UNIQUE (repo, oid, done)) STRICT
+sql CREATE TABLE chunks (upload INTEGER NOT NULL, n INTEGER NOT NULL, bytes BLOB NOT NULL, PRIMARY KEY (upload, n)) STRICT
+sql CREATE TABLE locks (repo TEXT NOT NULL, id INTEGER NOT NULL, ref TEXT NOT NULL, path TEXT NOT NULL, owner TEXT NOT NULL, moment INTEGER NOT NULL, PRIMARY KEY (repo, id), UNIQUE (repo, ref, path)) STRICT
+sql INSERT INTO meta (one, version) VALUES (1, 1)
+sql INSERT INTO repos VALUES ('studio/film', 2, 3)
+sql INSERT INTO uploads VALUES (1, 'studio/film', 'ba7816bf8f01cfea414140de5dae2223b00361a396177a9cb410ff61f20015ad', 3, 1)
+sql INSERT INTO chunks VALUES (1, 0, x'616263')
+sql INSERT INTO uploads VALUES (5, 'studio/film', '2cf24dba5fb0a30e26e83b2ac5b9e29e1b161e5c1fa7425e73043362938b9824', 5, 0)
+sql INSERT INTO locks VALUES ('studio/film', 2, 'refs/heads/main', 'art/hero.psd', 'ann', 1463500146)
+sql INSERT INTO tokens VALUES (x'ffe054fe7ae0cb6dc65c3af9b61d5209f439851db43d0ba5997337df154668eb', 'ann', 'studio/film', 2, 1463503600)
+chmod 640 db
+# it gets version 2 first, and then a file of contents
+$ migrate --contents --db @/db
+| migrated from version 1, 1 objects
+mode db 640
+mode db-contents 640
+missing db-moving
+missing db-moving-contents
+missing db-wal
+$ migrate --contents --db @/db
+| already version 3
+$ migrate --db @/db
+| already version 3
+# and has what it had, without the upload
+$ objects --db @/db --repo studio/film
+| ba7816bf8f01cfea414140de5dae2223b00361a396177a9cb410ff61f20015ad 3
+$ check --db @/db
+| checked 1 objects
+$ locks --db @/db --repo studio/film
+| 2 refs/heads/main ann 2016-05-17T15:49:06Z art/hero.psd
+$ usage --db @/db --policy @/policy --now 1463500146
+| repository   objects  bytes    quota  share  staged  locks  tokens
+| studio/film        1      3  1000000     0%       -      1       1
+| contents: 0 kept, 0 free, 0 in the file
+$ sweep --db @/db
+| swept 0 uploads
+# back
+$ migrate --chunks --db @/db
+| migrated from version 3, 1 objects
+mode db 640
+missing db-contents
+missing db-moving
+$ migrate --chunks --db @/db
+| already version 2
+$ check --db @/db
+| checked 1 objects
+# a database of version 2
+$ migrate --contents --db @/db
+| migrated from version 2, 1 objects
+$ session --db @/db --policy @/policy --now 1463500146
+get a studio/film locks
+reply 200 {"locks":[{"id":"2","locked_at":"2016-05-17T15:49:06Z","owner":{"name":"ann"},"path":"art/hero.psd"}]}
+# one of the two
+$ migrate --contents --chunks --db @/db
+error custody: bad value for --chunks
+status 2
+"#;
+
+#[test]
+fn contents_are_moved_into_a_file_and_back(rt: HostRuntime) {
+    perform(&rt, &rt, "moved", POLICY, MOVED);
+}
+
 /// Databases that have neither version.
 const OTHER: &str = r#"
 # only some of the tables

@@ -1,5 +1,5 @@
 -- Calls that only read, one after another.
-use Rattle.refinement.proofs.Prelude.{Ghosts, World, IsWorld, moves_then, nothing_then, Reads}
+use Rattle.refinement.proofs.Prelude.{Ghosts, World, IsWorld, IsHonest, Moves, AddsNothing, moves_then, nothing_then, Reads}
 use Rattle.refinement.proofs.Holding.{holds_still}
 
 module _ {S : Type 0} (g : Ghosts S) where
@@ -14,3 +14,7 @@ module _ {S : Type 0} (g : Ghosts S) where
   -- a weaker claim
   pub reads_weaker : (a b : S) (P Q : World → Type 0) → ((world : World) → IsWorld world → P world → Q world) → Reads g a b P → Reads g a b Q
   reads_weaker a b P Q f p = record { same = p.same; adds = p.adds; each = λ honest world h. f world h.laws (p.each honest world h) }
+
+  -- a call that leaves the tables, and what it returned
+  pub reads_same : (a b : S) (P : Type 0) → Moves g (λ t. t) a b → AddsNothing g a b → (IsHonest g b → P) → Reads g a b (λ _. P)
+  reads_same a b P same adds p = record { same = same; adds = adds; each = λ honest world h. p honest }

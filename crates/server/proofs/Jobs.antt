@@ -11,6 +11,8 @@ use Rattle.model.specs.Steps.{Event}
 use Rattle.refinement.specs.Left.{From, Reads}
 use Rattle.refinement.specs.Representation.{Holds}
 use Rattle.refinement.proofs.Leading.{from_weaker, leads_none, reads_lead}
+use Rattle.refinement.proofs.ReadOnly.{reads_same, reads_then}
+use Rattle.store.specs.Shown.{AddsNothing, Moves}
 use Rattle.sockets.specs.declared.queue.Caller.{Caller}
 use Rattle.operator.specs.Works.{Works, steps_of}
 use Rattle.operator.proofs.Working.{still_kept, steps_then, still_steps, then_kept, works_still, works_then}
@@ -128,6 +130,10 @@ module _ {M : Type 0} (m : machine.Ghosts M) where
     pub from_read : (IsOwn : World → List Observation → List Event → World → Type 0) (a b : S) (u v : M) (calls : List Call) (P : World → Type 0) → Calls m u calls v → Reads g a b P
         → ((world : World) → IsOwn world (seen_in calls) [] world) → From g a b (λ world. Helps m g IsOwn a b u v world)
     from_read IsOwn a b u v calls P made reads own = record { honest = reads.same.was_honest; each = λ honest world h. helps_read IsOwn a b u v calls P world h made reads (own world) }
+
+    -- a call after them that leaves the tables, as the one that asks for the room of the contents
+    pub also_room : (a b c : S) (P : World → Type 0) → Reads g a b P → Moves g (λ t. t) b c → AddsNothing g b c → Reads g a c (λ _. ⊤)
+    also_room a b c P p same adds = reads_then g a b c P (λ _. ⊤) (λ _. ⊤) (λ world laws before here. tt) p (reads_same g b c ⊤ same adds (λ honest. tt))
 
     -- calls of the store, whose steps are the caller's
     pub from_done : (IsOwn : World → List Observation → List Event → World → Type 0) (a b : S) (u v : M) (calls : List Call) (P : World → Type 0) → Calls m u calls v

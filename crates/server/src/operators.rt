@@ -292,7 +292,8 @@ impl OperatorContext<'_> {
     {
         let gauges = machine.gauges();
         let stored = self.stored(store)?;
-        let text = status_text(self.alloc, self.counts, &gauges, stored.as_slice())?;
+        let room = store.room()?;
+        let text = status_text(self.alloc, self.counts, &gauges, room, stored.as_slice())?;
         print(output, text.as_bytes())?;
         Ok(Outcome::Unchanged)
     }

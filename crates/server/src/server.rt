@@ -1,18 +1,20 @@
 //! A server over an open store: it does what those who call it ask for, one after the other.
 
-ghost use Rattle.std.specs.Prelude.{◌≡◌, ◌≤◌, ◌+◌, [], List, None, Some, false, IfNone, IfOk, IfSome, OnErr};
+ghost use Rattle.std.specs.Prelude.{◌≡◌, ◌≤◌, ◌+◌, [], if◌then◌else◌, List, None, Some, Ok, Err, false, IfNone, IfOk, IfSome, OnErr};
 ghost use Rattle.std.specs.Bool.{OnTrue};
 ghost use Rattle.refinement.specs.Left.{From};
 ghost use Rattle.server.specs.Commands.{IsAnswered};
 ghost use Rattle.server.specs.Jobs.{Call, Calls, HasFinished, Helps, IsTurn, Job, Serves, ServesClean, Tidies, seen_in, first_turn, has_stopped};
 ghost use Rattle.faults.specs.Statuses.{is_reported};
+ghost use Rattle.faults.specs.declared.faults.Fault.TheVariants.{Contents};
+ghost use Rattle.faults.specs.declared.contents.ContentsCause.TheVariants.{Failed};
 ghost use Rattle.machine.specs.Observations.{called};
 
 use crate::operators::OperatorContext;
 use crate::outcomes::Outcome;
 use crate::turns::TurnContext;
 use crate::waiting::Waiting;
-use faults::{Fault, is_good, print_fault};
+use faults::{ContentsCause, Fault, is_good, print_fault};
 use machine::{Machine, Talked};
 use metrics::Counts;
 use outbox::OperatorStream;
@@ -166,6 +168,20 @@ fn next_of<M: Machine>(machine: &mut M, is_busy: bool) -> Result<Option<Caller>,
     } else {
         machine.next()
     }
+}
+
+/// Fails if the files of the store may not be used any more: the next start finds what is on the disk.
+///
+/// # Errors
+///
+/// `Contents`.
+fn check_files<S: Store>(store: &S) -> Result<(), Fault>
+    ensures { result ≡ if S.State.is_usable store.now then Ok tt else Err (Contents Failed) }
+{
+    if store.may_be_used() {
+        return Ok(());
+    }
+    Err(Fault::Contents(ContentsCause::Failed))
 }
 
 impl<C: Clock> Server<'_, C> {
@@ -385,6 +401,7 @@ impl<C: Clock> Server<'_, C> {
                     stopped_by: None,
                 });
             }
+            check_files(store)?;
             if let Some(operator) = self.serve_next(store, machine, state, &mut waiting)? {
                 machine.shut_at_once();
                 machine.settle();
@@ -405,7 +422,8 @@ impl<C: Clock> Server<'_, C> {
     ///
     /// # Errors
     ///
-    /// `Network` if no connection could be accepted, and `Clock`: what was answered before remains valid.
+    /// `Network` if no connection could be accepted, `Clock`, and `Contents` after a sync of the file of contents has
+    /// failed: what was answered before remains valid.
     pub fn run<S: Store, M: Machine, E: Write>(
         &self,
         store: &mut S,

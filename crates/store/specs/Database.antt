@@ -1,5 +1,5 @@
 -- A database alone as a store.
-use Rattle.std.specs.Prelude.{◌≡◌}
+use Rattle.std.specs.Prelude.{◌≡◌, true, None}
 use Rattle.sqlite_trees.specs.declared.store.Store as trees
 use Rattle.tables.specs.Rows.{Tables}
 use Rattle.tables.specs.Shown as database
@@ -21,4 +21,6 @@ module _ {S : Type 0} (g : trees.Ghosts S) where
     shown = λ s. normal (database.shown g s);
     leaves = LeavesNormal;
     is_safe = database.IsSafe g;
+    is_usable = λ _. true;
+    has_room = λ _ room. room ≡ None;
   }

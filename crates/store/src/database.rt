@@ -3,6 +3,7 @@
 ghost use Rattle.store.specs.Database.{alone};
 
 use crate::content::{ChunkContent, content_in};
+use crate::room::Room;
 use crate::state::State;
 use crate::store::Store;
 use names::{LockId, LockPath, Moment, Oid, RefName, RepoName, Size, UserName};
@@ -24,9 +25,21 @@ impl<S: Alter> State for tables::Store<S> {
     ghost leaves = { (alone S.Store).leaves };
 
     ghost is_safe = { (alone S.Store).is_safe };
+
+    ghost is_usable = { (alone S.Store).is_usable };
+
+    ghost has_room = { (alone S.Store).has_room };
 }
 
 impl<S: Alter> Store for tables::Store<S> {
+    fn may_be_used(&self) -> bool {
+        true
+    }
+
+    fn room(&mut self) -> Result<Option<Room>, StoreFault> {
+        Ok(None)
+    }
+
     fn made(&mut self, repo: &RepoName) -> Result<u32, StoreFault> {
         tables::Store::made(self, repo)
     }

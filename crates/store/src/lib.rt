@@ -7,6 +7,7 @@ mod database;
 mod listed;
 mod numbered;
 mod restored;
+mod room;
 mod state;
 mod store;
 
@@ -14,5 +15,6 @@ pub use content::ChunkContent;
 pub use listed::Listed;
 pub use numbered::Numbered;
 pub use restored::Restored;
+pub use room::Room;
 pub use state::State;
 pub use store::Store;

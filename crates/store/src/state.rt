@@ -1,4 +1,6 @@
+ghost use Rattle.std.specs.Prelude.{Bool, Option};
 ghost use Rattle.tables.specs.Rows.{Tables};
+ghost use Rattle.store.specs.declared.room.Room.{Room};
 
 /// What a store is to the contracts of its calls.
 pub trait State {
@@ -19,4 +21,10 @@ pub trait State {
 
     /// Whatever the next open finds is our tables.
     ghost is_safe: { Self → Type 0 };
+
+    /// No sync of a file of contents has failed. After one has, what was written may be lost.
+    ghost is_usable: { Self → Bool };
+
+    /// Its file of contents is filled so; `None` if it has none.
+    ghost has_room: { Self → Option Room → Type 0 };
 }

@@ -1,6 +1,6 @@
 //! The calls.
 
-ghost use Rattle.std.specs.Prelude.{◌≡◌, ⊤, length, pos, not, find, filter, take, is_some, option_map, Some};
+ghost use Rattle.std.specs.Prelude.{◌≡◌, ⊤, length, pos, not, find, filter, take, is_some, option_map, Some, IfOk};
 ghost use Rattle.names.specs.Names.{repo_text, ref_text, path_text, user_text};
 ghost use Rattle.tables.specs.Statements.{is_at, has_id, is_in, is_from, by_id, has_digest, is_held_by, is_for, has_expired, is_object, is_staged, is_chunk, is_retired_as, is_retired_in, by_oid, with_chunk, without_lock, without_expired};
 ghost use Rattle.tables.specs.Steps.{IsLockOf, AreLocksOf, made_of, used_of, asked_lock, outcome_of, read_creation, after_create, IsTokenOf, AreTokensOf, asked_token, has_token, after_add};
@@ -9,9 +9,10 @@ ghost use Rattle.tables.specs.Retiring.{after_retire, AreNamesOf};
 ghost use Rattle.tables.specs.Discarding.{after_discard};
 ghost use Rattle.store.specs.Content.{IsContentOf};
 ghost use Rattle.store.specs.Normal.{normal};
-ghost use Rattle.store.specs.Shown.{Reads, Changes, PutsOr, Begins, Finds};
+ghost use Rattle.store.specs.Shown.{IsHonest, Moves, AddsNothing, Reads, Changes, PutsOr, Begins, Finds};
 
 use crate::content::ChunkContent;
+use crate::room::Room;
 use crate::state::State;
 use names::{LockId, LockPath, Moment, Oid, RefName, RepoName, Size, UserName};
 use std::alloc::Global;
@@ -22,6 +23,22 @@ use tables::{
 
 /// A store of the tables. Each change is one transaction.
 pub trait Store: State {
+    /// Whether its files may be used: after a sync of a file of contents has failed they may not, since what was written
+    /// may be lost. A store that is opened anew finds what is on the disk.
+    fn may_be_used(&self) -> bool
+        ensures { result ≡ Self.State.is_usable self.now };
+
+    /// Returns how the file of contents is filled; `None` for a database alone.
+    ///
+    /// # Errors
+    ///
+    /// `Refused`. The tables are unchanged in any case.
+    fn room(&mut self) -> Result<Option<Room>, StoreFault>
+        ensures answers { IsHonest Self.State self.new
+            → IfOk result (λ room. Self.State.has_room self.old room) }
+        ensures same { Moves Self.State (λ t. t) self.old self.new }
+        ensures adds { AddsNothing Self.State self.old self.new };
+
     /// Returns the number of locks that the repository ever made.
     ///
     /// # Errors

@@ -24,9 +24,16 @@ callers-preserved g c = record {
   most = c.go_on.ensures.most ∙ c.serve_next.ensures.most ∙ c.callers.invariant.most;
 }
 
+pub returns-in_err-check_files : goal.returns-in_err-check_files
+returns-in_err-check_files g c =
+    let p = err_from_is_err_and c.from_residual.result c.from_residual.ensures.1 in
+    rw p.1
+    (from_failed g.M.Machine g.S.State c.args.state.now.policy c.callers.state.policy c.callers.waiting c.args.state.now.most c.callers.state.begun p.0 c.args.store.now c.callers.store c.args.machine.now c.callers.machine
+    c.callers.invariant.jobs)
+
 pub returns-in_err-operator : goal.returns-in_err-operator
 returns-in_err-operator g c =
-    let p = err_from_is_err_and c.from_residual.result c.from_residual.ensures.1 in
+    let p = err_from_is_err_and c.from_residual-in_err-operator.result c.from_residual-in_err-operator.ensures.1 in
     rw p.1
     (from_failed g.M.Machine g.S.State c.args.state.now.policy c.serve_next.new.state.policy c.serve_next.new.waiting c.args.state.now.most c.serve_next.new.state.begun p.0 c.args.store.now c.serve_next.new.store c.args.machine.now c.serve_next.new.machine
     (from_serves g.M.Machine g.S.State c.args.state.now.policy c.callers.state.policy c.serve_next.new.state.policy None c.callers.waiting c.serve_next.new.waiting false c.args.store.now c.callers.store c.serve_next.new.store
