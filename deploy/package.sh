@@ -33,9 +33,12 @@ if [ "$(sed -n 's/^## \([^ ]*\) .*/\1/p' "$top/CHANGELOG.md" | head -n 1)" != "$
     echo "package.sh: CHANGELOG.md does not begin with version $version, which the program has" >&2
     exit 2
 fi
-root=$(mktemp -d)
-chmod 755 "$root"
-trap 'rm -rf "$root"' EXIT
+# The package's files are in a folder of their own. What pandoc reads and writes is beside it, since sh does not see that
+# a command within a pipe fails.
+work=$(mktemp -d)
+trap 'rm -rf "$work"' EXIT
+root=$work/root
+mkdir "$root"
 
 documents=$root/usr/share/doc/custody
 mkdir -p "$documents/examples" "$root/usr/share/man/man1"
@@ -83,13 +86,14 @@ changes() {
             date=$(git -C "$top" log -1 --format=%aI)
         fi
         printf 'custody (%s) unstable; urgency=medium\n\n' "$number"
-        awk -v number="$number" '/^## / { inside = $2 == number; next } inside' "$top/CHANGELOG.md" |
-            pandoc -f gfm -t plain --columns=76 |
-            sed -e 's/^-   /  * /' -e 's/^\([^ ].*\)$/  [ \1 ]/'
+        awk -v number="$number" '/^## / { inside = $2 == number; next } inside' "$top/CHANGELOG.md" > "$work/changes.md"
+        pandoc -f gfm -t plain --columns=76 "$work/changes.md" > "$work/changes.txt"
+        sed -e 's/^-   /  * /' -e 's/^\([^ ].*\)$/  [ \1 ]/' "$work/changes.txt"
         printf '\n -- %s  %s\n' "$maintainer" "$(date -R -d "$date")"
     done
 }
-changes | gzip -9 -n > "$documents/changelog.gz"
+changes > "$work/changelog"
+gzip -9 -n < "$work/changelog" > "$documents/changelog.gz"
 # What an administrator has to do at an upgrade; apt-listchanges shows it.
 {
     printf 'custody (%s) unstable; urgency=medium\n\n' "$version"
@@ -159,9 +163,10 @@ END
     awk -f "$top/deploy/synopsis.awk" "$top/docs/COMMANDS.md"
     printf '\n# DESCRIPTION\n\n'
     sed -e 1d -e '/^.bin\/custody. runs/d' -e 's/^## /# /' "$top/docs/COMMANDS.md"
-} | pandoc -s -f gfm -t man -M hyphenate=false -V adjusting=l -V title=custody -V section=1 \
-    -V footer="custody $version" \
-    | gzip -9 -n > "$root/usr/share/man/man1/custody.1.gz"
+} > "$work/manual.md"
+pandoc -s -f gfm -t man -M hyphenate=false -V adjusting=l -V title=custody -V section=1 -V footer="custody $version" \
+    "$work/manual.md" > "$work/manual"
+gzip -9 -n < "$work/manual" > "$root/usr/share/man/man1/custody.1.gz"
 
 # The oldest library of C that has all that the program uses.
 libc=$(objdump -T "$root/usr/bin/custody" | sed -n 's/.*GLIBC_\([0-9][0-9.]*\).*/\1/p' | sort -V | tail -n 1)

@@ -1,8 +1,8 @@
 """Each allocation of a work that is refused leaves what there was before, or what there is after it.
 
-The works are those of crates/cases/data/refusals.cases: a message, or a call of a crate. A library that is loaded before the
-C library refuses one allocation of a work, in one run of the program `cases` for each of them. The program compares what
-the store has then, and has after a restart (docs/developing/cases.md).
+The works are those of crates/cases/data/refusals.cases: a message, or a call of a crate, over a database of each form. A
+library that is loaded before the C library refuses one allocation of a work, in one run of the program `cases` for each of
+them. The program compares what the store has then, and has after a restart (docs/developing/cases.md).
 """
 import collections
 import concurrent.futures
@@ -21,9 +21,11 @@ DATA = TOP / "crates/cases/data"
 MARKS = TOP / "crates/cases/src/files.rt"
 # What a run may print. All else is a failure: a difference, or a program that ended in another way.
 OUTCOMES = {
-    "done": (0, r"1 cases, 0 differ\n"),
-    "refused": (1, r"[^\n]*: it was refused, and nothing is lost\n1 cases, 1 differ\n"),
+    "done": (0, r"\w+: 1 cases, 0 differ\n"),
+    "refused": (1, r"[^\n]*: it was refused, and nothing is lost\n\w+: 1 cases, 1 differ\n"),
 }
+# The forms of a database.
+FORMS = ["rows", "file"]
 SECONDS = 60
 # At least this many allocations of a work are refused, if it has as many.
 LEAST = 10
@@ -40,19 +42,19 @@ def library(room):
 
 
 def works(room):
-    """The titles of the works, each with a script of that work alone."""
+    """The titles of the works, each with the forms of its databases, and a script of that work alone."""
     front, *cases = re.split(r"(?m)^case ", (DATA / "refusals.cases").read_text(encoding="utf-8"))
     for number, case in enumerate(cases):
         path = Path(room, f"{number}.cases")
         path.write_text(f"{front}case {case}", encoding="utf-8")
-        yield case.splitlines()[0], path
+        yield case.splitlines()[0], re.findall(r"(?m)^only (\w+)$", case) or FORMS, path
 
 
 class Runs:
     """Runs of the program on a work."""
 
-    def __init__(self, program, refusing, script):
-        self.words = [program, DATA / "studio.cases", script]
+    def __init__(self, program, refusing, form, script):
+        self.words = [program, form, DATA / "studio.cases", script]
         self.script, self.environment = script, {**os.environ, "LD_PRELOAD": str(refusing)}
 
     def run(self, number):
@@ -97,10 +99,11 @@ def main():
     checks = Checks()
     with tempfile.TemporaryDirectory() as room:
         refusing = library(room)
-        for title, script in works(room):
-            is_met, text = judge(Runs(options.cases, refusing, script), options.every)
-            first, _, rest = text.partition("\n")
-            checks.expect(is_met, f"{title}: {first}", rest)
+        for title, forms, script in works(room):
+            for form in forms:
+                is_met, text = judge(Runs(options.cases, refusing, form, script), options.every)
+                first, _, rest = text.partition("\n")
+                checks.expect(is_met, f"{title}, {form}: {first}", rest)
     return checks.end()
 
 

@@ -3,6 +3,7 @@
 Each check starts a server on a new database and a free port of this machine, and reads the database with the command
 sqlite3 from a copy, while the server is killed. What an object has to be is what the check has made it of.
 """
+import os
 import random
 import signal
 import sqlite3
@@ -153,10 +154,15 @@ def check_missing(server, _):
     errors = server.fails("check")
     require(errors.startswith("custody: store G2\n") and "shorter" in errors, f"it printed {errors!r}")
     require(path.read_bytes() == away.read_bytes()[:-1], "the file was changed")
+    path.unlink()
     away.rename(path)
+    os.link(path, away)
+    errors = server.fails("check")
+    require(errors.startswith("custody: store G2\n") and "a second name" in errors, f"it printed {errors!r}")
+    away.unlink()
     server.start()
     require(server.has(data), "the object differs")
-    return "a missing file and a short one are store G2, each with its sentence"
+    return "a missing file, a short one and one with a second name are store G2, each with its sentence"
 
 
 def check_not_empty(server, _):
@@ -192,6 +198,36 @@ def check_spoiled(server, _):
     require(all(server.has(data) for data in objects if name_of(data) != name), "another object was lost")
     require(server.put(objects[2]) == 200 and server.has(objects[2]), "the object was not stored again")
     return "one byte of five objects was changed: check named one, and it was pushed again"
+
+
+def without_read(server, number, *command):
+    """Runs a command over the files, of which the disk fails the read of the contents with this number."""
+    path = server.contents()
+    words = ["strace", "-f", "-P", path, "-e", "trace=pread64", "-e", f"inject=pread64:error=EIO:when={number}", "-o",
+             "/dev/null", server.program, *command, "--db", server.database]
+    ran = subprocess.run(words, capture_output=True, text=True, check=False, timeout=60)
+    return ran.returncode, ran.stdout, ran.stderr
+
+
+def check_unreadable(server, _):
+    """Bytes that the disk does not read cost one object: check names it and goes on, and repair removes it."""
+    objects = sorted((made(number, 150_000) for number in range(5)), key=name_of)
+    for data in objects:
+        require(server.put(data) == 200, "an upload was refused")
+    server.end(signal.SIGTERM)
+    lost = objects[1]
+    # An object of 150,000 bytes is read in three pieces, in the order of names.
+    found = without_read(server, 5, "check")
+    named = (1, f"damaged {FILM} {name_of(lost)}\nchecked 5 objects\n", "custody: store G2\n")
+    require(found == named, f"check ended with {found}")
+    require(server.over_files("check")[:2] == (0, "checked 5 objects\n"), "a check without the fault names an object")
+    found = without_read(server, 5, "repair")
+    require(found == (0, f"removed {FILM} {name_of(lost)}\nremoved 1 objects\n", ""), f"repair ended with {found}")
+    server.start()
+    require(server.get(name_of(lost))[0] == 404, "the object is still served")
+    require(all(server.has(data) for data in objects if data != lost), "another object was lost")
+    require(server.put(lost) == 200 and server.has(lost), "the object was not stored again")
+    return "one read of five objects failed: check named one and read the others, and it was pushed again"
 
 
 def check_sync(server, _):
@@ -237,8 +273,7 @@ def check_start(server, options):
     begun = time.monotonic()
     server.start()
     text = within(time.monotonic() - begun, options.seconds, f"a start with {options.objects} objects of 1 MiB")
-    peak = next(int(line.split()[1]) for line in Path(f"/proc/{server.child.pid}/status").read_text().splitlines()
-                if line.startswith("VmHWM:"))
+    peak = server.peak()
     status, _ = server.get(f"{options.objects - 1:064x}")
     require(status == 200, f"an object got {status}")
     return f"{text}, and at most {peak // 1024} MB"
@@ -252,6 +287,7 @@ CHECKS = {
     "missing": check_missing,
     "not-empty": check_not_empty,
     "spoiled": check_spoiled,
+    "unreadable": check_unreadable,
     "sync": check_sync,
     "start": check_start,
 }

@@ -7,6 +7,9 @@ that a command over the files says why it fails. Then the file is removed, and e
 at once, without a restart. What was acknowledged is compared with what is stored before the kill, after it, with room
 again, and by sqlite3 at the end. A reply that is neither the right one nor a refusal of the store fails the check, and
 so does a refusal whose cause the server does not report, or reports within a second of the last report.
+
+The check `spare` kills a server within an upload on the full disk. The program `spare` of deploy/ then has to make room
+without it, so that it starts and goes on.
 """
 import collections
 import contextlib
@@ -22,10 +25,10 @@ import threading
 import time
 from pathlib import Path
 
-from tests.studio.checks import arguments, judge_forms, require
+from tests.studio.checks import arguments, comes_true, judge_forms, require
 from tests.studio.control import ControlledServer, issue_words
-from tests.studio.program import FORMS
-from tests.studio.tables import read_copy
+from tests.studio.program import FORMS, TOP, NotStarted, content, lock, made, message, name_of, put, run
+from tests.studio.tables import read_copy, staged_in
 from tests.studio.work import REMOVALS, WRITES, Killed, Work, compare_all
 
 MIB = 1 << 20
@@ -230,6 +233,57 @@ def check(names, left, form, options):
     return text
 
 
+def run_spare(server, word):
+    """Runs the program `spare` on the files of the server. Returns its status, and what it printed."""
+    room = Path(server.room)
+    text = (TOP / "deploy/programs/spare").read_text(encoding="utf-8")
+    for old, new in (("/var/lib/custody/db", f"{room}/disk"), ("/run/custody/control", server.control())):
+        text = text.replace(old, new)
+    programs = room / "bin"
+    if not programs.exists():
+        programs.mkdir()
+        (programs / "custody").symlink_to(server.program)
+        # It runs as the user custody.
+        (programs / "id").write_text("#!/bin/sh\necho 1000\n")
+        (programs / "spare").write_text(text)
+        for name in ("id", "spare"):
+            (programs / name).chmod(0o755)
+    status, output, errors = run([programs / "spare", word], env={"PATH": f"{programs}:{os.environ['PATH']}"})
+    return status, output + errors
+
+
+def kill_on_full_disk(server):
+    """Kills the server within an upload, after the disk got full."""
+    with server.client() as client:
+        client.send(put(made(1, 500_000))[:-1])
+        require(comes_true(lambda: staged_in(server.database) == 1), "no upload is staged")
+        fill(f"{server.room}/disk/rest")
+        server.end(signal.SIGKILL)
+
+
+def check_spare(form, options):
+    """A server that was killed within an upload on the full disk goes on after `spare sweep`."""
+    with tempfile.TemporaryDirectory() as room, small_disk(f"{room}/disk", SIZE):
+        with DiskServer(options.program, room, form) as server:
+            data = made(2, MIB)
+            require(server.ask(put(data))[0] == 200, "an upload was refused")
+            require(run_spare(server, "make") == (0, ""), "the spare file was not made")
+            kill_on_full_disk(server)
+            starts = True
+            try:
+                server.start()
+                server.end(signal.SIGKILL)
+            except NotStarted:
+                starts = False
+            status, printed = run_spare(server, "sweep")
+            require(status == 0 and "swept " in printed, f"spare sweep ended with {status}, and printed {printed!r}")
+            size = Path(room, "disk/spare").stat().st_size
+            server.start()
+            require(server.ask(message("GET", content(name_of(data)))) == (200, data), "an object differs")
+            require(server.ask(lock("art/a.psd"))[0] == 201, "a lock was refused")
+    return f"it {'starts' if starts else 'does not start'} on the full disk; then the spare file has {size} bytes again"
+
+
 # What fills the disk, and how much room is left for it at most: a lock takes 213 bytes, and a token 130.
 CHECKS = {
     "objects": (["upload"], 8 * MIB),
@@ -241,10 +295,11 @@ CHECKS = {
 
 def main():
     """Runs the checks."""
-    parser = arguments(__doc__, CHECKS, forms=True)
+    parser = arguments(__doc__, [*CHECKS, "spare"], forms=True)
     parser.add_argument("--rounds", type=int, default=20, help="how often a disk is filled, by all checks together")
     options = parser.parse_args()
-    return judge_forms(CHECKS, options, lambda name, form: check(*CHECKS[name], form, options))
+    return judge_forms([*CHECKS, "spare"], options, lambda name, form: check_spare(form, options) if name == "spare"
+                       else check(*CHECKS[name], form, options))
 
 
 if __name__ == "__main__":

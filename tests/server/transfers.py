@@ -28,17 +28,6 @@ ROWS = (
     row("allow", ["ann", "bob"], WORK, repos=["studio/"]),
 )
 REASON = "B6: the object was removed by its owner"
-SSH = """#!/bin/sh
-for words in "$@"; do :; done
-case $words in
-git-receive-pack* | git-upload-pack*) exec git shell -c "$words" ;;
-git-lfs-authenticate*)
-    set -- $words
-    exec @program authenticate --via @room/control --user @user "studio/$(basename "$2" .git)" "$3"
-    ;;
-esac
-exit 1
-"""
 
 
 class Trial(Workroom):
@@ -49,8 +38,7 @@ class Trial(Workroom):
         self.program, self.count, self.form = options.program, options.files, form
         self.set_up_git()
         for user in ("ann", "bob"):
-            text = SSH.replace("@user", user).replace("@room", room).replace("@program", options.program)
-            self.write(f"ssh-{user}", text, 0o755)
+            self.write_ssh(user, options.program)
         for name in QUOTAS:
             self.make_bare(name)
 
@@ -62,25 +50,20 @@ class Trial(Workroom):
             self.expect(server.child.poll() is None, "the server still runs")
             server.end(signal.SIGTERM)
 
-    def remote(self, name):
-        """The address of a repository."""
-        return f"ssh://git@studio.example{self.room}/{name}.git"
-
     def folder(self, user, name, transfers, mark=""):
         """The folder of a clone of the user, with a number of transfers at a time."""
-        settings = {"core.sshCommand": f"{self.room}/ssh-{user}", "ssh.variant": "simple",
-                    "lfs.concurrenttransfers": str(transfers)}
+        settings = {**self.over_ssh(user), "lfs.concurrenttransfers": str(transfers)}
         return Clone(self, f"{user}-{mark}{name.split('/')[1]}-{transfers}", user, settings)
 
     def clone(self, user, name, transfers, *settings):
         """A new clone of the repository, with its files, by `git clone`. Returns the status too."""
         clone = self.folder(user, name, transfers)
-        return clone.take(self.remote(name), *settings)[0], clone
+        return clone.take(self.bare_remote(name), *settings)[0], clone
 
     def new(self, user, name, transfers):
         """A new repository of the user, with nothing in it."""
         clone = self.folder(user, name, transfers, "new-")
-        clone.begin(self.remote(name))
+        clone.begin(self.bare_remote(name))
         clone.git("lfs", "track", "*.bin")
         clone.git("add", ".gitattributes")
         return clone

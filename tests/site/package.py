@@ -227,13 +227,33 @@ def is_dead(page, target):
     return not file.exists() or file.suffix == ".md" and anchor and anchor not in anchors(file.read_text())
 
 
+def make_package(program, room, **more):
+    """Makes a package in the folder, with more variables of the environment. Returns the status, and what it said."""
+    built = TOP / "crates/custody/out/custody" if program == str(TOP / "bin/custody") else program
+    status, output, errors = run([TOP / "deploy/package.sh", room], env={**os.environ, "CUSTODY": str(built), **more})
+    return status, output + errors
+
+
+def try_pandoc(checks, program):
+    """If pandoc fails on the list of changes, or on the manual page, no package is made."""
+    for form in ("plain", "man"):
+        with tempfile.TemporaryDirectory() as room:
+            stand_in = Path(room, "bin/pandoc")
+            stand_in.parent.mkdir()
+            stand_in.write_text(f'#!/bin/sh\ncase " $* " in *" -t {form} "*) exit 7 ;; esac\n'
+                                f'exec {shutil.which("pandoc")} "$@"\n')
+            stand_in.chmod(0o755)
+            status, said = make_package(program, room, PATH=f"{stand_in.parent}:{os.environ['PATH']}")
+            checks.expect(status == 7 and not list(Path(room).glob("*.deb")),
+                          f"no package is made if pandoc fails to write the form {form}", f"status {status}: {said}")
+
+
 def try_package(checks, program):
     """A package depends on what its program needs, and its pages lead to files that it installs."""
     with tempfile.TemporaryDirectory() as room:
         root = Path(room, "root")
-        built = TOP / "crates/custody/out/custody" if program == str(TOP / "bin/custody") else program
-        status, output, errors = run([TOP / "deploy/package.sh", room], env={**os.environ, "CUSTODY": str(built)})
-        require(status == 0, f"deploy/package.sh: {output}{errors}")
+        status, said = make_package(program, room)
+        require(status == 0, f"deploy/package.sh: {said}")
         package = next(Path(room).glob("*.deb"))
         depends = run(["dpkg-deb", "-f", package, "Depends"])[1].strip()
         require(run(["dpkg-deb", "-x", package, root])[0] == 0, "the package has no files")
@@ -272,6 +292,7 @@ def main():
     try_group(checks)
     try_folders(checks)
     if not options.no_package:
+        try_pandoc(checks, options.program)
         checks.part("package", lambda: try_package(checks, options.program))
     return checks.end()
 

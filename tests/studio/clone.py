@@ -9,6 +9,18 @@ from tests.studio.checks import require
 
 # The last lines of a command that are shown.
 SHOWN = 12
+# In the place of sshd: the control socket is that of a server in the same folder.
+SSH = """#!/bin/sh
+for words in "$@"; do :; done
+case $words in
+git-receive-pack* | git-upload-pack*) exec git shell -c "$words" ;;
+git-lfs-authenticate*)
+    set -- $words
+    exec @program authenticate --via @room/control --user @user "studio/$(basename "$2" .git)" "$3"
+    ;;
+esac
+exit 1
+"""
 
 
 class Workroom:
@@ -62,6 +74,20 @@ class Workroom:
         """The settings of every clone of the folder."""
         self.run("git", "config", "--global", "init.defaultBranch", "main")
         self.run("git", "lfs", "install", "--skip-repo")
+
+    def write_ssh(self, user, program):
+        """A script in the place of sshd, for one user: it runs Git's own commands on the repositories of the folder,
+        and answers git-lfs-authenticate with the line that `custody authenticate` prints."""
+        text = SSH.replace("@user", user).replace("@room", self.room).replace("@program", program)
+        self.write(f"ssh-{user}", text, 0o755)
+
+    def over_ssh(self, user):
+        """The settings with which a clone of the user runs that script."""
+        return {"core.sshCommand": f"{self.room}/ssh-{user}", "ssh.variant": "simple"}
+
+    def bare_remote(self, name):
+        """The address of a repository of the folder over SSH."""
+        return f"ssh://git@studio.example{self.room}/{name}.git"
 
     def make_bare(self, name):
         """A new repository without files. Returns its path."""

@@ -37,10 +37,10 @@ def listening(port):
         return probe.connect_ex(("127.0.0.1", port)) == 0
 
 
-def memory_of(process):
-    """The resident memory of a process, in KiB."""
+def memory_of(process, field="VmRSS"):
+    """The resident memory of a process, in KiB; with the field VmHWM, what it was at its highest."""
     lines = Path(f"/proc/{process}/status").read_text(encoding="utf-8").splitlines()
-    return next(int(line.split()[1]) for line in lines if line.startswith("VmRSS:"))
+    return next(int(line.split()[1]) for line in lines if line.startswith(f"{field}:"))
 
 
 def target(rest, repo=FILM):
@@ -264,6 +264,10 @@ class Server(Files):
     def memory(self):
         """The resident memory in KiB."""
         return memory_of(self.child.pid)
+
+    def peak(self):
+        """The resident memory at its highest since the start, in KiB."""
+        return memory_of(self.child.pid, "VmHWM")
 
     def processor_time(self):
         """How many seconds of a processor the server has used."""

@@ -14,6 +14,9 @@ SELECT repo, oid FROM retired ORDER BY rowid;
 SELECT id, repo, oid, size, done FROM uploads WHERE done = 1 ORDER BY id;
 """
 CHUNKS = "SELECT upload, n, hex(bytes) FROM chunks ORDER BY upload, n;"
+# The names of objects, each with the number and the bytes of its chunks, or of the row that has its place.
+PIECES = """SELECT oid, coalesce(n, 0), coalesce(hex(bytes), '')
+FROM uploads LEFT JOIN chunks ON upload = id WHERE done = 1 ORDER BY id, n;"""
 
 
 def sqlite3(path, statements):
@@ -34,6 +37,25 @@ def read_copy(path, statements):
     """What sqlite3 prints for the statements, of a copy of the database and its log."""
     with tempfile.TemporaryDirectory() as folder:
         return sqlite3(copied(path, folder), statements)
+
+
+def objects_in(path):
+    """The bytes of each object of a database of one repository, by its name."""
+    found = {}
+    for oid, number, digits in (line.split("|") for line in read_copy(path, PIECES).splitlines()):
+        data = bytes.fromhex(digits)
+        if int(number) == PLACE:
+            start, size = int.from_bytes(data[:8], "big"), int.from_bytes(data[8:], "big")
+            with open(f"{path}-contents", "rb") as contents:
+                contents.seek(start)
+                data = contents.read(size)
+        found[oid] = found.get(oid, b"") + data
+    return found
+
+
+def staged_in(path):
+    """How many uploads of the database are not complete."""
+    return int(read_copy(path, "SELECT count(*) FROM uploads WHERE done = 0;"))
 
 
 def has_begun(path):

@@ -17,7 +17,9 @@ pub use fault::Fault;
 use names::Moment;
 use policy::Policy;
 use std::alloc::Global;
-use tables::{Storage, Store, UploadId};
+use store::Store;
+pub use table_calls::{create, migrate};
+use tables::UploadId;
 pub use words::{moment, number, oid, operation, repo, size, user, word};
 
 /// What a call is given beside its words.
@@ -60,9 +62,9 @@ impl Hands {
 /// `Store` if the store refuses, and `Memory` if memory runs out: each transaction of the call is then made whole or not at
 /// all, so a call of several may have made some of them, and `Memory` may follow a call that was made. Another fault if the
 /// words mean nothing to the call, or if what it returned contradicts another call.
-pub fn call<S: Storage>(
+pub fn call<S: Store>(
     given: &Given<'_>,
-    store: &mut Store<S>,
+    store: &mut S,
     hands: &mut Hands,
     name: &str,
     text: &str,
@@ -81,8 +83,5 @@ pub fn call<S: Storage>(
     if let Some(lines) = upload_calls::call(given, store, hands, name, words)? {
         return Ok(Some(lines));
     }
-    if let Some(lines) = object_calls::call(given, store, hands, name, words)? {
-        return Ok(Some(lines));
-    }
-    table_calls::call(given.alloc, store, name)
+    object_calls::call(given, store, hands, name, words)
 }

@@ -7,7 +7,8 @@ use locks::{Lock, LockFault};
 use names::{LockPath, Moment};
 use pushcheck::PushVerdict;
 use std::alloc::Global;
-use tables::{Alter, NewLock, Store};
+use store::Store;
+use tables::NewLock;
 
 /// A lock, for a person to read.
 fn lock_text(alloc: Global, lock: &Lock) -> Result<String, Fault> {
@@ -41,10 +42,10 @@ fn made(alloc: Global, word: &str, lock: &Lock) -> Result<String, Fault> {
 }
 
 /// Makes a lock: its repository, its ref, its owner, and its path.
-fn create<S: Alter>(
+fn create<S: Store>(
     alloc: Global,
     now: Moment,
-    store: &mut Store<S>,
+    store: &mut S,
     words: &[&str],
 ) -> Result<String, Fault> {
     let repo = repo(alloc, word(words, 0)?)?;
@@ -67,14 +68,14 @@ fn create<S: Alter>(
 }
 
 /// Removes the lock of a repository and an id.
-fn remove<S: Alter>(alloc: Global, store: &mut Store<S>, words: &[&str]) -> Result<String, Fault> {
+fn remove<S: Store>(alloc: Global, store: &mut S, words: &[&str]) -> Result<String, Fault> {
     let repo = repo(alloc, word(words, 0)?)?;
     let id = lock_id(word(words, 1)?)?;
     answer(alloc, locks::remove(store, &repo, id)?)
 }
 
 /// The lock of a repository, a ref and a path.
-fn at<S: Alter>(alloc: Global, store: &mut Store<S>, words: &[&str]) -> Result<String, Fault> {
+fn at<S: Store>(alloc: Global, store: &mut S, words: &[&str]) -> Result<String, Fault> {
     let repo = repo(alloc, word(words, 0)?)?;
     let ref_name = ref_name(alloc, word(words, 1)?)?;
     let path = path(alloc, word(words, 2)?)?;
@@ -82,27 +83,27 @@ fn at<S: Alter>(alloc: Global, store: &mut Store<S>, words: &[&str]) -> Result<S
 }
 
 /// The lock of a repository and an id.
-fn with<S: Alter>(alloc: Global, store: &mut Store<S>, words: &[&str]) -> Result<String, Fault> {
+fn with<S: Store>(alloc: Global, store: &mut S, words: &[&str]) -> Result<String, Fault> {
     let repo = repo(alloc, word(words, 0)?)?;
     let id = lock_id(word(words, 1)?)?;
     line(alloc, &locks::get(store, &repo, id)?)
 }
 
 /// The locks of a repository.
-fn all<S: Alter>(alloc: Global, store: &mut Store<S>, words: &[&str]) -> Result<String, Fault> {
+fn all<S: Store>(alloc: Global, store: &mut S, words: &[&str]) -> Result<String, Fault> {
     let repo = repo(alloc, word(words, 0)?)?;
     lines(alloc, locks::all(alloc, store, &repo)?.as_slice())
 }
 
 /// The locks of a repository from an id on, as many as are read at once.
-fn from<S: Alter>(alloc: Global, store: &mut Store<S>, words: &[&str]) -> Result<String, Fault> {
+fn from<S: Store>(alloc: Global, store: &mut S, words: &[&str]) -> Result<String, Fault> {
     let repo = repo(alloc, word(words, 0)?)?;
     let id = lock_id(word(words, 1)?)?;
     lines(alloc, locks::window(alloc, store, &repo, id)?.as_slice())
 }
 
 /// The number of locks that a repository ever made.
-fn number<S: Alter>(alloc: Global, store: &mut Store<S>, words: &[&str]) -> Result<String, Fault> {
+fn number<S: Store>(alloc: Global, store: &mut S, words: &[&str]) -> Result<String, Fault> {
     let repo = repo(alloc, word(words, 0)?)?;
     count(alloc, u64::from(locks::made(store, &repo)?))
 }
@@ -129,11 +130,7 @@ fn paths(alloc: Global, words: &[&str]) -> Result<Vec<LockPath>, Fault> {
 }
 
 /// The verdicts on a push: the user, the repository, the ref, and the paths.
-fn push<S: Alter>(
-    given: &Given<'_>,
-    store: &mut Store<S>,
-    words: &[&str],
-) -> Result<String, Fault> {
+fn push<S: Store>(given: &Given<'_>, store: &mut S, words: &[&str]) -> Result<String, Fault> {
     let alloc = given.alloc;
     let Some(policy) = given.policy else {
         return Err(Fault::Script("there is no policy"));
@@ -152,9 +149,9 @@ fn push<S: Alter>(
 }
 
 /// Makes the call of this word, if it is one about locks.
-pub(crate) fn call<S: Alter>(
+pub(crate) fn call<S: Store>(
     given: &Given<'_>,
-    store: &mut Store<S>,
+    store: &mut S,
     name: &str,
     words: &[&str],
 ) -> Result<Option<String>, Fault> {

@@ -6,13 +6,14 @@ use crate::{Given, Hands};
 use chunks::{PourCause, pour};
 use names::{FailAfter, VecSink};
 use std::alloc::Global;
-use tables::{Alter, Store, UploadRow};
+use store::Store;
+use tables::UploadRow;
 use uploads::Retired;
 
 /// The number of an object's upload, and its size, if a repository has it.
-fn object<S: Alter>(
+fn object<S: Store>(
     alloc: Global,
-    store: &mut Store<S>,
+    store: &mut S,
     hands: &mut Hands,
     words: &[&str],
 ) -> Result<String, Fault> {
@@ -39,7 +40,7 @@ fn lines(alloc: Global, rows: &[UploadRow]) -> Result<String, Fault> {
 }
 
 /// The objects of a repository, or of all.
-fn objects<S: Alter>(alloc: Global, store: &mut Store<S>, words: &[&str]) -> Result<String, Fault> {
+fn objects<S: Store>(alloc: Global, store: &mut S, words: &[&str]) -> Result<String, Fault> {
     let name = match part(words, 0) {
         Some(word) => Some(repo(alloc, word)?),
         None => None,
@@ -48,13 +49,13 @@ fn objects<S: Alter>(alloc: Global, store: &mut Store<S>, words: &[&str]) -> Res
 }
 
 /// The bytes of a repository's objects.
-fn used<S: Alter>(alloc: Global, store: &mut Store<S>, words: &[&str]) -> Result<String, Fault> {
+fn used<S: Store>(alloc: Global, store: &mut S, words: &[&str]) -> Result<String, Fault> {
     let repo = repo(alloc, word(words, 0)?)?;
     count(alloc, uploads::used(store, &repo)?)
 }
 
 /// Removes an object for good.
-fn retire<S: Alter>(alloc: Global, store: &mut Store<S>, words: &[&str]) -> Result<String, Fault> {
+fn retire<S: Store>(alloc: Global, store: &mut S, words: &[&str]) -> Result<String, Fault> {
     let repo = repo(alloc, word(words, 0)?)?;
     let name = oid(word(words, 1)?)?;
     let line = match uploads::retire(alloc, store, &repo, name)? {
@@ -65,19 +66,34 @@ fn retire<S: Alter>(alloc: Global, store: &mut Store<S>, words: &[&str]) -> Resu
     Ok(line.to_owned(alloc)?)
 }
 
+/// Removes an object, whose name may be uploaded again.
+fn discard<S: Store>(alloc: Global, store: &mut S, words: &[&str]) -> Result<String, Fault> {
+    let repo = repo(alloc, word(words, 0)?)?;
+    let name = oid(word(words, 1)?)?;
+    answer(alloc, store.discard_object(&repo, &name)?)
+}
+
+/// How the file of contents is filled, if there is one: the bytes of contents, those that are free before the last of
+/// them ends, and the size.
+fn room<S: Store>(alloc: Global, store: &mut S) -> Result<String, Fault> {
+    match store.room()? {
+        Some(room) => {
+            let (kept, free, size) = (room.kept, room.free, room.size);
+            Ok(format!(in alloc; "{kept} {free} {size}\n")?)
+        }
+        None => Ok(String::new(alloc)),
+    }
+}
+
 /// Whether an object was removed for good.
-fn is_retired<S: Alter>(
-    alloc: Global,
-    store: &mut Store<S>,
-    words: &[&str],
-) -> Result<String, Fault> {
+fn is_retired<S: Store>(alloc: Global, store: &mut S, words: &[&str]) -> Result<String, Fault> {
     let repo = repo(alloc, word(words, 0)?)?;
     let name = oid(word(words, 1)?)?;
     answer(alloc, uploads::is_retired(store, &repo, &name)?)
 }
 
 /// The names of the objects that a repository removed for good.
-fn retired<S: Alter>(alloc: Global, store: &mut Store<S>, words: &[&str]) -> Result<String, Fault> {
+fn retired<S: Store>(alloc: Global, store: &mut S, words: &[&str]) -> Result<String, Fault> {
     let repo = repo(alloc, word(words, 0)?)?;
     let mut text = String::new(alloc);
     for name in uploads::retired(alloc, store, &repo)?.iter() {
@@ -89,9 +105,9 @@ fn retired<S: Alter>(alloc: Global, store: &mut Store<S>, words: &[&str]) -> Res
 
 /// Writes an object out: its upload, and the bytes that it has to begin with. Returns their number, and whether a write
 /// failed.
-fn write_out<S: Alter>(
+fn write_out<S: Store>(
     given: &Given<'_>,
-    store: &mut Store<S>,
+    store: &mut S,
     hands: &Hands,
     words: &[&str],
 ) -> Result<String, Fault> {
@@ -114,11 +130,7 @@ fn write_out<S: Alter>(
 }
 
 /// The numbers of tokens, objects, removed objects and locks that a user sees of a repository.
-fn view<S: Alter>(
-    given: &Given<'_>,
-    store: &mut Store<S>,
-    words: &[&str],
-) -> Result<String, Fault> {
+fn view<S: Store>(given: &Given<'_>, store: &mut S, words: &[&str]) -> Result<String, Fault> {
     let alloc = given.alloc;
     let Some(policy) = given.policy else {
         return Err(Fault::Script("there is no policy"));
@@ -132,9 +144,9 @@ fn view<S: Alter>(
 }
 
 /// Makes the call of this word, if it is one about objects.
-pub(crate) fn call<S: Alter>(
+pub(crate) fn call<S: Store>(
     given: &Given<'_>,
-    store: &mut Store<S>,
+    store: &mut S,
     hands: &mut Hands,
     name: &str,
     words: &[&str],
@@ -145,6 +157,8 @@ pub(crate) fn call<S: Alter>(
         "objects" => objects(alloc, store, words)?,
         "used" => used(alloc, store, words)?,
         "retire" => retire(alloc, store, words)?,
+        "discard" => discard(alloc, store, words)?,
+        "room" => room(alloc, store)?,
         "is-retired" => is_retired(alloc, store, words)?,
         "retired" => retired(alloc, store, words)?,
         "pour" => write_out(given, store, hands, words)?,

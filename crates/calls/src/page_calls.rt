@@ -8,7 +8,7 @@ use locks::Lock;
 use names::{LockId, LockPath, RefName, RepoName};
 use std::alloc::Global;
 use std::cell::Cell;
-use tables::{Alter, Store};
+use store::Store;
 
 /// The number of locks that are read at once (`cursor::page`).
 const WINDOW: u32 = 64;
@@ -60,12 +60,7 @@ impl Asked {
     }
 
     /// The page of the store. No more than a window is asked about after the next lock.
-    fn page<S: Alter>(
-        &self,
-        alloc: Global,
-        store: &mut Store<S>,
-        repo: &RepoName,
-    ) -> Result<Page, Fault> {
+    fn page<S: Store>(&self, alloc: Global, store: &mut S, repo: &RepoName) -> Result<Page, Fault> {
         let count = Cell::new(0u32);
         let every = self.every;
         let visible = |row: &Lock| {
@@ -115,7 +110,7 @@ fn line(alloc: Global, page: &Page) -> Result<String, Fault> {
 }
 
 /// A page of the store's locks, which has to be that of the same locks in memory.
-fn page<S: Alter>(alloc: Global, store: &mut Store<S>, words: &[&str]) -> Result<String, Fault> {
+fn page<S: Store>(alloc: Global, store: &mut S, words: &[&str]) -> Result<String, Fault> {
     let repo = repo(alloc, word(words, 0)?)?;
     let asked = Asked::read(alloc, words)?;
     let stored = line(alloc, &asked.page(alloc, store, &repo)?)?;
@@ -128,7 +123,7 @@ fn page<S: Alter>(alloc: Global, store: &mut Store<S>, words: &[&str]) -> Result
 }
 
 /// The first page of a repository's locks, in those of a user and the others.
-fn split<S: Alter>(alloc: Global, store: &mut Store<S>, words: &[&str]) -> Result<String, Fault> {
+fn split<S: Store>(alloc: Global, store: &mut S, words: &[&str]) -> Result<String, Fault> {
     let repo = repo(alloc, word(words, 0)?)?;
     let user = user(alloc, word(words, 1)?)?;
     let any = Filter {
@@ -163,9 +158,9 @@ fn limit_line(alloc: Global, text: &str) -> Result<String, Fault> {
 }
 
 /// Makes the call of this word, if it is one about pages.
-pub(crate) fn call<S: Alter>(
+pub(crate) fn call<S: Store>(
     given: &Given<'_>,
-    store: &mut Store<S>,
+    store: &mut S,
     name: &str,
     words: &[&str],
     text: &str,

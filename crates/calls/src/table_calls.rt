@@ -1,4 +1,4 @@
-//! Calls about the tables as a whole.
+//! Calls about the tables of a database as a whole.
 
 use crate::fault::Fault;
 use std::alloc::Global;
@@ -12,32 +12,31 @@ fn line(alloc: Global, fault: OpenFault) -> Result<String, Fault> {
     }
 }
 
-/// Creates or checks the tables.
-fn create<S: Storage>(alloc: Global, store: &mut Store<S>) -> Result<String, Fault> {
-    match store.create_or_check(alloc, Layout::Rows) {
+/// Creates or checks the tables of this layout.
+///
+/// # Errors
+///
+/// `Store` and `Memory`.
+pub fn create<S: Storage>(
+    alloc: Global,
+    store: &mut Store<S>,
+    layout: Layout,
+) -> Result<String, Fault> {
+    match store.create_or_check(alloc, layout) {
         Ok(()) => Ok(String::new(alloc)),
         Err(fault) => line(alloc, fault),
     }
 }
 
-/// Gives tables of an older version the current one.
-fn migrate<S: Storage>(alloc: Global, store: &mut Store<S>) -> Result<String, Fault> {
+/// Gives tables of version 1 those of version 2.
+///
+/// # Errors
+///
+/// `Store` and `Memory`.
+pub fn migrate<S: Storage>(alloc: Global, store: &mut Store<S>) -> Result<String, Fault> {
     match store.migrate(alloc) {
         Ok(Migrated::From1) => Ok("from 1\n".to_owned(alloc)?),
         Ok(Migrated::Already) => Ok("already\n".to_owned(alloc)?),
         Err(fault) => line(alloc, fault),
     }
-}
-
-/// Makes the call of this word, if it is one about the tables.
-pub(crate) fn call<S: Storage>(
-    alloc: Global,
-    store: &mut Store<S>,
-    name: &str,
-) -> Result<Option<String>, Fault> {
-    Ok(Some(match name {
-        "tables" => create(alloc, store)?,
-        "migrate" => migrate(alloc, store)?,
-        _ => return Ok(None),
-    }))
 }

@@ -6,7 +6,8 @@ use crate::words::{count, moment, number, operation, repo, user, word};
 use names::{Moment, Operation};
 use sha2::{Digest, Sha256};
 use std::alloc::Global;
-use tables::{Alter, NewToken, Store, TokenRow};
+use store::Store;
+use tables::{NewToken, TokenRow};
 use tokens::{CallerFault, TokenFault, TokenRequest};
 
 /// The word of the operation.
@@ -18,7 +19,7 @@ fn operation_word(operation: Operation) -> &'static str {
 }
 
 /// Stores a token: its letter, of which its text has 64, its user, its repository, its operation, and its expiry.
-fn add<S: Alter>(alloc: Global, store: &mut Store<S>, words: &[&str]) -> Result<String, Fault> {
+fn add<S: Store>(alloc: Global, store: &mut S, words: &[&str]) -> Result<String, Fault> {
     let letter = word(words, 0)?.bytes().next().unwrap_or(0);
     let user = user(alloc, word(words, 1)?)?;
     let repo = repo(alloc, word(words, 2)?)?;
@@ -46,10 +47,10 @@ fn text_of(alloc: Global, answer: Result<String, TokenFault>) -> Result<String, 
 
 /// Issues a token, or offers it: the byte of which its random bytes have 32, its user, its repository, its operation, and
 /// its lifetime in seconds.
-fn issue<S: Alter>(
+fn issue<S: Store>(
     alloc: Global,
     now: Moment,
-    store: &mut Store<S>,
+    store: &mut S,
     words: &[&str],
     is_offer: bool,
 ) -> Result<String, Fault> {
@@ -74,9 +75,9 @@ fn issue<S: Alter>(
 }
 
 /// The caller whom a field names, or the rule that refuses it.
-fn caller<S: Alter>(
+fn caller<S: Store>(
     given: &Given<'_>,
-    store: &mut Store<S>,
+    store: &mut S,
     field: Option<&[u8]>,
 ) -> Result<String, Fault> {
     let alloc = given.alloc;
@@ -106,22 +107,22 @@ fn lines(alloc: Global, rows: &[TokenRow]) -> Result<String, Fault> {
 }
 
 /// The tokens of a user for a repository.
-fn of_user<S: Alter>(alloc: Global, store: &mut Store<S>, words: &[&str]) -> Result<String, Fault> {
+fn of_user<S: Store>(alloc: Global, store: &mut S, words: &[&str]) -> Result<String, Fault> {
     let user = user(alloc, word(words, 0)?)?;
     let repo = repo(alloc, word(words, 1)?)?;
     lines(alloc, tokens::of(alloc, store, &user, &repo)?.as_slice())
 }
 
 /// The tokens of all users for a repository.
-fn of_all<S: Alter>(alloc: Global, store: &mut Store<S>, words: &[&str]) -> Result<String, Fault> {
+fn of_all<S: Store>(alloc: Global, store: &mut S, words: &[&str]) -> Result<String, Fault> {
     let repo = repo(alloc, word(words, 0)?)?;
     lines(alloc, tokens::all(alloc, store, &repo)?.as_slice())
 }
 
 /// Makes the call of this word, if it is one about tokens.
-pub(crate) fn call<S: Alter>(
+pub(crate) fn call<S: Store>(
     given: &Given<'_>,
-    store: &mut Store<S>,
+    store: &mut S,
     name: &str,
     words: &[&str],
     text: &str,

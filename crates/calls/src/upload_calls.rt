@@ -5,7 +5,8 @@ use crate::words::{answer, count, number, oid, repo, size, small, word};
 use crate::{Given, Hands};
 use chunks::Intake;
 use std::alloc::Global;
-use tables::{Alter, Store, UploadId};
+use store::Store;
+use tables::UploadId;
 use uploads::{Kept, UploadFault};
 
 impl Hands {
@@ -37,9 +38,9 @@ impl Hands {
 }
 
 /// Begins an upload: its repository, its name, and its size.
-fn begin<S: Alter>(
+fn begin<S: Store>(
     alloc: Global,
-    store: &mut Store<S>,
+    store: &mut S,
     hands: &mut Hands,
     words: &[&str],
 ) -> Result<String, Fault> {
@@ -51,7 +52,7 @@ fn begin<S: Alter>(
 }
 
 /// Stages an upload: its repository, its name, its size, and the bytes that have arrived.
-fn stage<S: Alter>(alloc: Global, store: &mut Store<S>, words: &[&str]) -> Result<String, Fault> {
+fn stage<S: Store>(alloc: Global, store: &mut S, words: &[&str]) -> Result<String, Fault> {
     let repo = repo(alloc, word(words, 0)?)?;
     let name = oid(word(words, 1)?)?;
     let size = size(word(words, 2)?)?;
@@ -70,9 +71,9 @@ fn open(alloc: Global, hands: &mut Hands, words: &[&str]) -> Result<String, Faul
 }
 
 /// Takes bytes, in pieces of a size.
-fn take<S: Alter>(
+fn take<S: Store>(
     alloc: Global,
-    store: &mut Store<S>,
+    store: &mut S,
     hands: &mut Hands,
     words: &[&str],
 ) -> Result<String, Fault> {
@@ -101,7 +102,7 @@ fn close(alloc: Global, hands: &mut Hands) -> Result<String, Fault> {
 }
 
 /// Makes the last upload an object, by what arrived.
-fn complete<S: Alter>(alloc: Global, store: &mut Store<S>, hands: &Hands) -> Result<String, Fault> {
+fn complete<S: Store>(alloc: Global, store: &mut S, hands: &Hands) -> Result<String, Fault> {
     let Some(arrival) = &hands.arrival else {
         return Err(Fault::Script("nothing has arrived"));
     };
@@ -116,15 +117,15 @@ fn complete<S: Alter>(alloc: Global, store: &mut Store<S>, hands: &Hands) -> Res
 }
 
 /// Removes the last upload.
-fn abandon<S: Alter>(alloc: Global, store: &mut Store<S>, hands: &Hands) -> Result<String, Fault> {
+fn abandon<S: Store>(alloc: Global, store: &mut S, hands: &Hands) -> Result<String, Fault> {
     uploads::abandon(store, hands.last()?)?;
     Ok(String::new(alloc))
 }
 
 /// Removes the chunks of an upload from a number on.
-fn shorten<S: Alter>(
+fn shorten<S: Store>(
     alloc: Global,
-    store: &mut Store<S>,
+    store: &mut S,
     hands: &Hands,
     words: &[&str],
 ) -> Result<String, Fault> {
@@ -134,9 +135,9 @@ fn shorten<S: Alter>(
 }
 
 /// Adds a chunk: its upload, its number, and its bytes.
-fn chunk<S: Alter>(
+fn chunk<S: Store>(
     alloc: Global,
-    store: &mut Store<S>,
+    store: &mut S,
     hands: &Hands,
     words: &[&str],
 ) -> Result<String, Fault> {
@@ -147,9 +148,9 @@ fn chunk<S: Alter>(
 }
 
 /// Makes the call of this word, if it is one about an upload.
-pub(crate) fn call<S: Alter>(
+pub(crate) fn call<S: Store>(
     given: &Given<'_>,
-    store: &mut Store<S>,
+    store: &mut S,
     hands: &mut Hands,
     name: &str,
     words: &[&str],

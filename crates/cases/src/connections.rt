@@ -6,7 +6,7 @@ use calls::Fault;
 use names::{FailAfter, SliceSource, VecSink};
 use service::{End, Routes, Served, serve};
 use std::alloc::Global;
-use tables::{Alter, Store};
+use store::Store;
 
 /// What a connection was sent, how it ended, and the number of bytes that were not read.
 #[derive(Drop)]
@@ -17,9 +17,9 @@ pub(crate) struct Sent {
 }
 
 /// Serves the connection of the scene.
-pub(crate) fn sent_by<S: Alter>(
+pub(crate) fn sent_by<S: Store>(
     alloc: Global,
-    store: &mut Store<S>,
+    store: &mut S,
     scene: &Scene,
 ) -> Result<Sent, Fault> {
     let Some(policy) = &scene.policy else {
@@ -110,9 +110,9 @@ fn is_cut_by_store(scene: &Scene, refusal: &[u8], sent: &Sent) -> bool {
 
 /// Serves the connection of the scene, and compares what is sent and how it ends. Of the replies as many bytes are sent
 /// as the writes take. A write that fails though all should succeed had no memory.
-pub(crate) fn end<S: Alter>(
+pub(crate) fn end<S: Store>(
     alloc: Global,
-    store: &mut Store<S>,
+    store: &mut S,
     scene: &mut Scene,
     names: &Names,
     words: &str,

@@ -3,6 +3,7 @@
 //! A fuse forwards the first calls to a file in memory, and fails each later one. When the machine restarts, what was
 //! never synced is lost, and the files are opened again.
 
+use crate::databases::{Database, Form, open_beside};
 use crate::running::{Located, Setting, located};
 use crate::scene::Scene;
 use crate::script::Step;
@@ -10,7 +11,7 @@ use crate::steps::take_turn;
 use crate::texts::Names;
 use crate::turns::turns;
 use calls::Fault;
-use sqlite::{Connection, FileStore, Files, Options};
+use sqlite::{Connection, Files, Options};
 use sqlite_disk::{Crash, Disk, Fuse, Memory};
 use std::alloc::Global;
 use tables::{Storage, Store};
@@ -18,23 +19,43 @@ use tables::{Storage, Store};
 /// The result of steps: where they failed, if they did.
 pub(crate) type Taken = Result<(), Located>;
 
-/// A database and its log.
-pub(crate) type Disks = Files<Fuse<Memory>>;
+/// A file in memory that may fail.
+type Fused = Fuse<Memory>;
 
-/// Empty files, which never fail.
-pub(crate) fn new_files(alloc: Global) -> Disks {
-    Files {
-        log: Fuse::new(Memory::new(alloc), u64::MAX),
-        db: Fuse::new(Memory::new(alloc), u64::MAX),
+/// A database, its log, and its file of contents, which is empty if the contents are rows.
+#[derive(Drop)]
+pub(crate) struct Disks {
+    pub rows: Files<Fused>,
+    pub contents: Fused,
+}
+
+impl Disks {
+    /// Empty files, which never fail.
+    fn new(alloc: Global) -> Disks {
+        Disks {
+            rows: Files {
+                log: Fuse::new(Memory::new(alloc), u64::MAX),
+                db: Fuse::new(Memory::new(alloc), u64::MAX),
+            },
+            contents: Fuse::new(Memory::new(alloc), u64::MAX),
+        }
+    }
+
+    /// Whether no sync of a file has failed.
+    pub(crate) fn may_be_used(&self) -> bool {
+        self.rows.may_be_used() && self.contents.may_be_used()
+    }
+
+    /// The machine restarts: what was never synced is lost.
+    pub(crate) fn crash(&mut self) {
+        self.rows.log.crash();
+        self.rows.db.crash();
+        self.contents.crash();
     }
 }
 
 /// A file with the same bytes, all of which are synced, that fails after this number of calls.
-pub(crate) fn copy_of(
-    alloc: Global,
-    file: &Fuse<Memory>,
-    calls: u64,
-) -> Result<Fuse<Memory>, Fault> {
+pub(crate) fn copy_of(alloc: Global, file: &Fused, calls: u64) -> Result<Fused, Fault> {
     let mut copy = Memory::new(alloc);
     if copy.write_at(0, file.inner().bytes()).is_err() || copy.sync().is_err() {
         return Err(Fault::Memory);
@@ -42,33 +63,28 @@ pub(crate) fn copy_of(
     Ok(Fuse::new(copy, calls))
 }
 
-/// The machine restarts: what was never synced is lost.
-pub(crate) fn crash(files: &mut Disks) {
-    files.log.crash();
-    files.db.crash();
-}
-
-/// Takes the steps over the store. Returns the store.
-fn take_steps<S: Storage>(
+/// Takes the steps over the store. Returns the store, unless it had to be closed.
+fn take_steps<S: Database>(
     alloc: Global,
-    mut store: Store<S>,
+    mut store: S,
     scene: &mut Scene,
     names: &mut Names,
     steps: &[Step],
-) -> (Store<S>, Taken) {
+) -> (Option<S>, Taken) {
     scene.begin();
     let turns = match turns(alloc, steps) {
         Ok(turns) => turns,
-        Err(fault) => return (store, Err(fault)),
+        Err(fault) => return (Some(store), Err(fault)),
     };
     for turn in turns.iter() {
         let (same, taken) = take_turn(alloc, store, scene, names, turn);
-        store = same;
-        if let Err(fault) = taken {
-            return (store, Err((turn.step.line, fault)));
-        }
+        let taken = located(turn.step.line, taken);
+        store = match (same, taken) {
+            (Some(same), Ok(())) => same,
+            (same, taken) => return (same, taken),
+        };
     }
-    (store, located(0, scene.expect_ended()))
+    (Some(store), located(0, scene.expect_ended()))
 }
 
 /// What is done with a store: steps, and then those that have to hold if they were taken, or if they failed.
@@ -111,17 +127,20 @@ fn mark(alloc: Global, is_marked: bool) {
     }
 }
 
-/// Does what the plan says over the store. Returns the store.
-fn do_plan<S: Storage>(
+/// Does what the plan says over the store. Returns the store, unless it had to be closed.
+fn do_plan<S: Database>(
     alloc: Global,
-    store: Store<S>,
+    store: S,
     scene: &mut Scene,
     names: &mut Names,
     plan: Plan<'_>,
-) -> (Store<S>, Done) {
+) -> (Option<S>, Done) {
     mark(alloc, plan.is_marked);
     let (store, work) = take_steps(alloc, store, scene, names, plan.work);
     mark(alloc, plan.is_marked);
+    let Some(store) = store else {
+        return (None, Done { work, held: Ok(()) });
+    };
     let steps = if work.is_ok() {
         plan.done
     } else {
@@ -146,8 +165,38 @@ fn unopened() -> Done {
     }
 }
 
+/// Does what the plan says with a database in the form of the setting. Returns what was opened, unless it had to be
+/// closed.
+fn with_opened<S: Storage + Drop, D: Disk + Drop>(
+    setting: Setting<'_>,
+    rows: Store<S>,
+    contents: D,
+    scene: &mut Scene,
+    names: &mut Names,
+    plan: Plan<'_>,
+) -> (Option<(Store<S>, D)>, Done) {
+    let alloc = setting.alloc;
+    if setting.form == Form::Rows {
+        let (rows, done) = do_plan(alloc, rows, scene, names, plan);
+        return match rows {
+            Some(rows) => (Some((rows, contents)), done),
+            None => (None, done),
+        };
+    }
+    match open_beside(alloc, rows, contents) {
+        Ok(store) => {
+            let (store, done) = do_plan(alloc, store, scene, names, plan);
+            match store {
+                Some(store) => (Some(store.into_parts()), done),
+                None => (None, done),
+            }
+        }
+        Err(_) => (None, unopened()),
+    }
+}
+
 /// Opens a store over the files, and does what the plan says. Returns the files, after the log was copied into the
-/// database if `settles`.
+/// database if `settles`; none if a file of contents could not be opened, since all files are closed then.
 pub(crate) fn with_files(
     setting: Setting<'_>,
     files: Disks,
@@ -155,21 +204,48 @@ pub(crate) fn with_files(
     names: &mut Names,
     plan: Plan<'_>,
     settles: bool,
-) -> (Disks, Done) {
-    let alloc = setting.alloc;
-    if !files.may_be_used() {
-        return (files, unopened());
+) -> (Option<Disks>, Done) {
+    let Disks { rows, contents } = files;
+    if !contents.may_be_used() {
+        return (Some(Disks { rows, contents }), unopened());
     }
-    match Connection::open_files(alloc, files, small()) {
-        Ok(conn) => {
-            let (store, done) = do_plan(alloc, Store::adopt(conn), scene, names, plan);
-            let mut files = store.into_connection().into_store();
-            if settles {
-                let _ = files.checkpoint();
-            }
-            (files.close(), done)
+    if !rows.may_be_used() {
+        return (Some(Disks { rows, contents }), unopened());
+    }
+    let rows = match Connection::open_files(setting.alloc, rows, small()) {
+        Ok(conn) => Store::adopt(conn),
+        Err((_, left)) => {
+            let rows = left.into_files();
+            return (Some(Disks { rows, contents }), unopened());
         }
-        Err((_, left)) => (left.into_files(), unopened()),
+    };
+    let (left, done) = with_opened(setting, rows, contents, scene, names, plan);
+    let Some((rows, contents)) = left else {
+        return (None, done);
+    };
+    let mut rows = rows.into_connection().into_store();
+    if settles {
+        let _ = rows.checkpoint();
+    }
+    let rows = rows.close();
+    (Some(Disks { rows, contents }), done)
+}
+
+/// Takes the steps over the files, all of which have to be taken. Returns the files.
+pub(crate) fn after_steps(
+    setting: Setting<'_>,
+    files: Disks,
+    scene: &mut Scene,
+    names: &mut Names,
+    steps: &[Step],
+    settles: bool,
+) -> Result<Disks, Located> {
+    let plan = Plan::steps(steps);
+    let (files, done) = with_files(setting, files, scene, names, plan, settles);
+    done.work?;
+    match files {
+        Some(files) => Ok(files),
+        None => Err((0, Fault::Script("the files are closed"))),
     }
 }
 
@@ -180,12 +256,8 @@ pub(crate) fn files_after(
     steps: &[Step],
 ) -> Result<(Disks, Scene), Located> {
     let mut scene = located(0, Scene::new(setting.alloc, setting.most))?;
-    let files = new_files(setting.alloc);
-    let start = Plan::steps(setting.start);
-    let (files, done) = with_files(setting, files, &mut scene, names, start, false);
-    done.work?;
-    let first = Plan::steps(steps);
-    let (files, done) = with_files(setting, files, &mut scene, names, first, true);
-    done.work?;
+    let files = Disks::new(setting.alloc);
+    let files = after_steps(setting, files, &mut scene, names, setting.start, false)?;
+    let files = after_steps(setting, files, &mut scene, names, steps, true)?;
     Ok((files, scene))
 }

@@ -1,6 +1,7 @@
 //! Messages that differ in one place, and the rule that refuses each.
 
 use crate::connections::{expect_end, expect_text, sent_by};
+use crate::databases::{Database, InMemory};
 use crate::running::{Located, Setting, World, located, world_after};
 use crate::script::Step;
 use crate::texts::Names;
@@ -37,10 +38,10 @@ impl<'w> Wanted<'w> {
 }
 
 /// Serves the message, and compares.
-fn expect(
+fn expect<S: Database + InMemory>(
     setting: Setting<'_>,
     names: &Names,
-    world: World,
+    world: World<S>,
     message: &[u8],
     wanted: Wanted<'_>,
 ) -> Result<(), Fault> {
@@ -81,8 +82,13 @@ struct Table<'s> {
 
 impl Table<'_> {
     /// Serves the message to a new server, and compares.
-    fn expect(&self, names: &mut Names, message: &[u8], wanted: Wanted<'_>) -> Result<(), Located> {
-        let world = world_after(self.setting, names, self.before)?;
+    fn expect<S: Database + InMemory>(
+        &self,
+        names: &mut Names,
+        message: &[u8],
+        wanted: Wanted<'_>,
+    ) -> Result<(), Located> {
+        let world = world_after::<S>(self.setting, names, self.before)?;
         located(
             self.step.line,
             expect(self.setting, names, world, message, wanted),
@@ -100,25 +106,25 @@ impl Table<'_> {
 
     /// Judges the message of a row, alone and with the worked lock after it. That lock is ignored after a head that is
     /// refused, which closes; it is answered after any other message, as the first lock if that message was refused.
-    fn judge(&self, names: &mut Names, row: &str) -> Result<(), Located> {
+    fn judge<S: Database + InMemory>(&self, names: &mut Names, row: &str) -> Result<(), Located> {
         let (code, text) = row.split_once(' ').unwrap_or((row, ""));
         let (message, both) = located(self.step.line, self.messages(names, text))?;
         if code == "201" {
             let replies = &["created", "held"];
-            return self.expect(names, both.as_slice(), Wanted::open(replies, 1));
+            return self.expect::<S>(names, both.as_slice(), Wanted::open(replies, 1));
         }
         if code.starts_with('H') {
             let replies = &[code];
-            self.expect(names, message.as_slice(), Wanted::closed(replies))?;
-            return self.expect(names, both.as_slice(), Wanted::closed(replies));
+            self.expect::<S>(names, message.as_slice(), Wanted::closed(replies))?;
+            return self.expect::<S>(names, both.as_slice(), Wanted::closed(replies));
         }
-        self.expect(names, message.as_slice(), Wanted::open(&[code], 0))?;
-        self.expect(names, both.as_slice(), Wanted::open(&[code, "created"], 1))
+        self.expect::<S>(names, message.as_slice(), Wanted::open(&[code], 0))?;
+        self.expect::<S>(names, both.as_slice(), Wanted::open(&[code, "created"], 1))
     }
 }
 
 /// Judges the messages of the step's rows, each by a server on which the steps before were taken. Returns their number.
-pub(crate) fn judge(
+pub(crate) fn judge<S: Database + InMemory>(
     setting: Setting<'_>,
     names: &mut Names,
     before: &[Step],
@@ -130,9 +136,9 @@ pub(crate) fn judge(
         step,
     };
     // The names that the steps before define.
-    world_after(setting, names, before)?;
+    world_after::<S>(setting, names, before)?;
     for row in step.rows.iter() {
-        table.judge(names, row.as_str())?;
+        table.judge::<S>(names, row.as_str())?;
     }
     Ok(step.rows.len() as u64)
 }

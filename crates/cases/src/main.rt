@@ -1,11 +1,14 @@
 //! The cases of the server: scripts of messages, and of the replies and rows that they have to lead to.
 //!
-//! The arguments are the names of files, `data/` has them, and docs/developing/cases.md describes how they are written.
-//! The steps before the first case of the first file begin each case of all files. What differs is printed, and at the
-//! end how many cases there were; a row of a table counts as a case.
+//! The first argument is the form of the databases, `rows`, `file`, or `both` for one after the other. The others are
+//! the names of files, `data/` has them, and docs/developing/cases.md describes how they are written. The steps before
+//! the first case of the first file begin each case of all files. What differs is printed, and for each form how many
+//! cases there were; a row of a table counts as a case.
 #![tactic(auto)]
 
 mod connections;
+mod copies;
+mod databases;
 mod files;
 mod judging;
 mod restarting;
@@ -19,6 +22,7 @@ mod trying;
 mod turns;
 
 use calls::{Fault, number};
+use databases::Form;
 use running::{Located, Setting, located, run_steps};
 use script::{Case, Script, Step, read_script};
 use std::alloc::Global;
@@ -55,6 +59,7 @@ fn limit(word: &str) -> Result<usize, Fault> {
 /// Runs the case with each of its limits. Returns the number of messages that it judges.
 fn run_with_limits(
     alloc: Global,
+    form: Form,
     names: &mut Names,
     start: &[Step],
     case: &Case,
@@ -65,7 +70,12 @@ fn run_with_limits(
         let steps = case.steps.as_slice();
         let is_fresh = steps.first().is_some_and(|step| step.is("fresh"));
         let start = if is_fresh { &[] } else { start };
-        let setting = Setting { alloc, start, most };
+        let setting = Setting {
+            alloc,
+            form,
+            start,
+            most,
+        };
         judged = run_steps(setting, names, steps)?;
     }
     Ok(judged)
@@ -80,37 +90,59 @@ fn numbers_of(case: &Case) -> Result<u64, Fault> {
 }
 
 /// Runs the case for each of its numbers, for which `n` stands. Returns the number of messages that it judges.
-fn run_case(alloc: Global, names: &mut Names, start: &[Step], case: &Case) -> Result<u64, Located> {
+fn run_case(
+    alloc: Global,
+    form: Form,
+    names: &mut Names,
+    start: &[Step],
+    case: &Case,
+) -> Result<u64, Located> {
     let numbers = located(0, numbers_of(case))?;
     let mut judged = 0;
     for number in 0..numbers {
         located(0, names.define_number("n", number))?;
-        judged = run_with_limits(alloc, names, start, case)?;
+        judged = run_with_limits(alloc, form, names, start, case)?;
     }
     Ok(judged)
 }
 
-/// Reads the script of this file.
-fn script_of(rt: &HostRuntime, file: &str) -> Result<Script, Fault> {
+/// Reads the script of this file, for databases of this form.
+fn script_of(rt: &HostRuntime, form: Form, file: &str) -> Result<Script, Fault> {
     match fs::read_to_string(rt, file) {
-        Ok(text) => read_script(rt.alloc(), text.as_str()),
+        Ok(text) => read_script(rt.alloc(), form, text.as_str()),
         Err(_) => Err(Fault::Script("the file cannot be read")),
     }
 }
 
-/// The scripts that were read: the values of their names, the steps that begin each case, and the tally.
+/// The scripts that were read for databases of one form: the values of their names, the steps that begin each case, and
+/// the tally.
 #[derive(Drop)]
 struct Run {
+    form: Form,
     names: Names,
     start: Option<Vec<Step>>,
     tally: Tally,
 }
 
 impl Run {
+    /// No script was read.
+    fn new(alloc: Global, form: Form) -> Run {
+        Run {
+            form,
+            names: Names::new(alloc),
+            start: None,
+            tally: Tally {
+                cases: 0,
+                differing: 0,
+            },
+        }
+    }
+
     /// Prints why a part of a file is not as it has to be.
     fn differ(&mut self, rt: &HostRuntime, file: &str, title: &str, (line, fault): &Located) {
         self.tally.differing = self.tally.differing.saturating_add(1);
-        let _ = println!(rt; "{file}:{line}: {title}: {fault}");
+        let form = self.form.word();
+        let _ = println!(rt; "{file}:{line}: {form}: {title}: {fault}");
     }
 
     /// Defines the names of the steps before the first case. The other steps are those that begin each case: the first
@@ -139,7 +171,13 @@ impl Run {
     fn run(&mut self, rt: &HostRuntime, file: &str, cases: &[Case]) {
         let start = self.start.take().unwrap_or(Vec::new(rt.alloc()));
         for case in cases {
-            match run_case(rt.alloc(), &mut self.names, start.as_slice(), case) {
+            match run_case(
+                rt.alloc(),
+                self.form,
+                &mut self.names,
+                start.as_slice(),
+                case,
+            ) {
                 Ok(judged) => self.tally.cases = self.tally.cases.saturating_add(judged),
                 Err(located) => self.differ(rt, file, case.title.as_str(), &located),
             }
@@ -150,7 +188,7 @@ impl Run {
 
     /// Runs the cases of a file.
     fn run_file(&mut self, rt: &HostRuntime, file: &str) {
-        let script = match script_of(rt, file) {
+        let script = match script_of(rt, self.form, file) {
             Ok(script) => script,
             Err(fault) => return self.differ(rt, file, "the script", &(0, fault)),
         };
@@ -162,25 +200,39 @@ impl Run {
     }
 }
 
-/// Runs the cases of the files that the arguments name.
-fn run_files(rt: &HostRuntime) -> io::Result<Tally> {
-    let files: Vec<String> = env::args(rt)?.skip(1).collect(rt.alloc())?;
-    let mut run = Run {
-        names: Names::new(rt.alloc()),
-        start: None,
-        tally: Tally {
-            cases: 0,
-            differing: 0,
-        },
-    };
-    for file in files.iter() {
+/// Runs the cases of the files over databases of this form, and prints how many there were. Returns whether none
+/// differs.
+fn run_files(rt: &HostRuntime, form: Form, files: &[String]) -> io::Result<bool> {
+    let mut run = Run::new(rt.alloc(), form);
+    for file in files {
         run.run_file(rt, file.as_str());
     }
-    Ok(run.tally)
+    let Tally { cases, differing } = run.tally;
+    let form = form.word();
+    println!(rt; "{form}: {cases} cases, {differing} differ")?;
+    Ok(differing == 0)
+}
+
+/// Runs the cases over databases of the forms of this word. Returns whether none differs.
+fn run_forms(rt: &HostRuntime, word: &str, files: &[String]) -> io::Result<bool> {
+    if word == "both" {
+        let is_same = run_files(rt, Form::Rows, files)?;
+        return Ok(run_files(rt, Form::File, files)? && is_same);
+    }
+    match Form::read(word) {
+        Some(form) => run_files(rt, form, files),
+        None => {
+            println!(rt; "no such form: {word}")?;
+            Ok(false)
+        }
+    }
 }
 
 fn main(rt: HostRuntime) -> io::Result<ExitCode> {
-    let Tally { cases, differing } = run_files(&rt)?;
-    println!(rt; "{cases} cases, {differing} differ")?;
-    Ok(ExitCode::from(u8::from(differing > 0)))
+    let words: Vec<String> = env::args(&rt)?.skip(1).collect(rt.alloc())?;
+    let is_same = match words.as_slice().split_first() {
+        Some((word, files)) => run_forms(&rt, word.as_str(), files)?,
+        None => false,
+    };
+    Ok(ExitCode::from(u8::from(!is_same)))
 }

@@ -1,6 +1,6 @@
 //! A case whose machine restarts, or whose process ends, between its steps.
 
-use crate::files::{Plan, crash, files_after, with_files};
+use crate::files::{after_steps, files_after};
 use crate::running::{Located, Setting, located};
 use crate::script::Step;
 use crate::texts::Names;
@@ -23,15 +23,12 @@ pub(crate) fn run_over_files(
     for _ in 0..steps.len() {
         let at = rest.iter().position(is_restart).unwrap_or(rest.len());
         let (work, after) = rest.split_at(at);
-        let plan = Plan::steps(work);
-        let (same, done) = with_files(setting, files, &mut scene, names, plan, false);
-        files = same;
-        done.work?;
+        files = after_steps(setting, files, &mut scene, names, work, false)?;
         let Some((step, next)) = after.split_first() else {
             return Ok(());
         };
         if step.is("restart") {
-            crash(&mut files);
+            files.crash();
         }
         rest = next;
     }

@@ -1,5 +1,6 @@
 //! A case: its steps, taken over a store in memory.
 
+use crate::databases::{Database, Form, InMemory};
 use crate::judging::judge;
 use crate::restarting::{is_restart, run_over_files};
 use crate::scene::Scene;
@@ -10,7 +11,9 @@ use crate::texts::Names;
 use crate::trying::try_work;
 use crate::turns::{Turn, turns};
 use calls::Fault;
+use placed::Placed;
 use sqlite::MemStore;
+use sqlite_disk::Memory;
 use std::alloc::Global;
 use tables::Store;
 
@@ -25,36 +28,40 @@ pub(crate) fn located<T>(line: usize, answer: Result<T, Fault>) -> Result<T, Loc
     }
 }
 
-/// The steps with which each case begins, and the most bytes of a read and of a write.
+/// The form of the databases, the steps with which each case begins, and the most bytes of a read and of a write.
 #[derive(Clone, Copy)]
 pub(crate) struct Setting<'s> {
     pub alloc: Global,
+    pub form: Form,
     pub start: &'s [Step],
     pub most: usize,
 }
 
 /// A store in memory, and what a case has beside it.
 #[derive(Drop)]
-pub(crate) struct World {
-    pub store: Store<MemStore>,
+pub(crate) struct World<S> {
+    pub store: S,
     pub scene: Scene,
 }
 
-impl World {
+impl<S: Database + InMemory> World<S> {
     /// A world without tables.
-    fn new(alloc: Global, most: usize) -> Result<World, Fault> {
+    fn new(alloc: Global, most: usize) -> Result<World<S>, Fault> {
         Ok(World {
-            store: Store::open_memory(alloc)?,
+            store: S::new(alloc)?,
             scene: Scene::new(alloc, most)?,
         })
     }
 
     /// Takes the step of a turn.
-    fn take(self, alloc: Global, names: &mut Names, turn: &Turn<'_>) -> Result<World, Located> {
+    fn take(self, alloc: Global, names: &mut Names, turn: &Turn<'_>) -> Result<World<S>, Located> {
         let World { store, mut scene } = self;
         let (store, taken) = take_turn(alloc, store, &mut scene, names, turn);
         located(turn.step.line, taken)?;
-        Ok(World { store, scene })
+        match store {
+            Some(store) => Ok(World { store, scene }),
+            None => Err((turn.step.line, Fault::Script("the store is closed"))),
+        }
     }
 
     /// Takes the steps, but those that judge messages.
@@ -63,7 +70,7 @@ impl World {
         alloc: Global,
         names: &mut Names,
         steps: &[Step],
-    ) -> Result<World, Located> {
+    ) -> Result<World<S>, Located> {
         for turn in turns(alloc, steps)?.iter() {
             if !turn.step.is("judge") {
                 self = self.take(alloc, names, turn)?;
@@ -74,12 +81,12 @@ impl World {
 }
 
 /// The world after these steps, all of which are calls or connections.
-pub(crate) fn world_after(
+pub(crate) fn world_after<S: Database + InMemory>(
     setting: Setting<'_>,
     names: &mut Names,
     steps: &[Step],
-) -> Result<World, Located> {
-    let world = located(0, World::new(setting.alloc, setting.most))?;
+) -> Result<World<S>, Located> {
+    let world: World<S> = located(0, World::new(setting.alloc, setting.most))?;
     let world = world.take_all(setting.alloc, names, setting.start)?;
     world.take_all(setting.alloc, names, steps)
 }
@@ -100,6 +107,24 @@ fn run_with_work(
     })
 }
 
+/// Takes the steps of a case over a store in memory. Returns the number of messages that it judges.
+fn run_in_memory<S: Database + InMemory>(
+    setting: Setting<'_>,
+    names: &mut Names,
+    steps: &[Step],
+) -> Result<u64, Located> {
+    let mut judged = 0u64;
+    for (at, step) in steps.iter().enumerate() {
+        if step.is("judge") {
+            let before = steps.get(..at).unwrap_or(&[]);
+            judged = judged.saturating_add(judge::<S>(setting, names, before, step)?);
+        }
+    }
+    let world = world_after::<S>(setting, names, steps)?;
+    located(0, world.scene.expect_ended())?;
+    Ok(judged)
+}
+
 /// Takes the steps of a case. Returns the number of messages that it judges.
 pub(crate) fn run_steps(
     setting: Setting<'_>,
@@ -110,14 +135,8 @@ pub(crate) fn run_steps(
         taken?;
         return Ok(0);
     }
-    let mut judged = 0u64;
-    for (at, step) in steps.iter().enumerate() {
-        if step.is("judge") {
-            let before = steps.get(..at).unwrap_or(&[]);
-            judged = judged.saturating_add(judge(setting, names, before, step)?);
-        }
+    match setting.form {
+        Form::Rows => run_in_memory::<Store<MemStore>>(setting, names, steps),
+        Form::File => run_in_memory::<Placed<Store<MemStore>, Memory>>(setting, names, steps),
     }
-    let world = world_after(setting, names, steps)?;
-    located(0, world.scene.expect_ended())?;
-    Ok(judged)
 }

@@ -1,27 +1,44 @@
 //! The steps of a case over a store.
 
 use crate::connections::{end, expect_text};
+use crate::databases::{Database, With};
 use crate::scene::Scene;
 use crate::script::Step;
 use crate::texts::Names;
 use crate::turns::Turn;
 use calls::{Fault, Given, call};
-use sqlite::{Connection, Row};
+use sqlite::Row;
 use sqlite_value::value::ValueRef;
 use std::alloc::Global;
-use tables::{Alter, Storage, Store};
+use store::Store;
 
-/// Makes the call of the step, and compares the lines that it returns with the step's rows; the row `refused` is wanted if
-/// the store refuses. Returns whether the step is a call.
-fn make_call<S: Storage>(
+/// A store after a step, which is gone if it had to be closed; and what became of the step.
+pub(crate) type Left<S> = With<S, ()>;
+
+/// Compares the lines that a call returned with the step's rows; the row `refused` is wanted if the store refuses.
+fn expect_lines(
     alloc: Global,
-    store: &mut Store<S>,
+    names: &Names,
+    step: &Step,
+    found: Result<String, Fault>,
+) -> Result<(), Fault> {
+    let wanted = names.lines(step.rows.as_slice())?;
+    match found {
+        Ok(lines) => expect_text(alloc, wanted.as_slice(), lines.as_bytes()),
+        Err(Fault::Store(_)) if wanted.as_slice() == b"refused\n".as_slice() => Ok(()),
+        Err(fault) => Err(fault),
+    }
+}
+
+/// Makes the call of the step, and compares. Returns whether the step is a call.
+fn make_call<S: Store>(
+    alloc: Global,
+    store: &mut S,
     scene: &mut Scene,
     names: &Names,
     step: &Step,
     text: &str,
 ) -> Result<bool, Fault> {
-    let wanted = names.lines(step.rows.as_slice())?;
     let Scene {
         policy,
         now,
@@ -38,20 +55,19 @@ fn make_call<S: Storage>(
         writes: *writes,
     };
     let found = match call(&given, store, hands, step.word.as_str(), text) {
-        Ok(Some(lines)) => lines,
+        Ok(Some(lines)) => Ok(lines),
         Ok(None) => return Ok(false),
-        Err(Fault::Store(_)) if wanted.as_slice() == b"refused\n".as_slice() => return Ok(true),
-        Err(fault) => return Err(fault),
+        Err(fault) => Err(fault),
     };
-    expect_text(alloc, wanted.as_slice(), found.as_bytes())?;
+    expect_lines(alloc, names, step, found)?;
     scene.writes = u64::MAX;
     Ok(true)
 }
 
 /// Takes a step that is one of the scene or a call of the store.
-fn take<S: Storage>(
+fn take<S: Store>(
     alloc: Global,
-    store: &mut Store<S>,
+    store: &mut S,
     scene: &mut Scene,
     names: &mut Names,
     step: &Step,
@@ -98,75 +114,77 @@ fn push_row(alloc: Global, text: &mut Vec<u8>, row: &Row) -> Result<(), Fault> {
     Ok(())
 }
 
-/// Compares the rows of a query with those of the step.
-fn expect_rows<S: Alter>(
+/// Compares the rows that a query found with those of the step.
+fn expect_rows(
     alloc: Global,
-    conn: &mut Connection<S>,
-    names: &mut Names,
+    names: &Names,
     step: &Step,
+    found: Result<Vec<Row>, Fault>,
 ) -> Result<(), Fault> {
-    let query = names.line(step.rest.as_str())?;
-    let Ok(rows) = conn.query_all(query.as_str(), &[]) else {
-        return Err(Fault::Store("a query"));
-    };
-    let mut found = Vec::new(alloc);
-    for row in rows.iter() {
-        push_row(alloc, &mut found, row)?;
+    let mut text = Vec::new(alloc);
+    for row in found?.iter() {
+        push_row(alloc, &mut text, row)?;
     }
     let wanted = names.lines(step.rows.as_slice())?;
-    expect_text(alloc, wanted.as_slice(), found.as_slice())
+    expect_text(alloc, wanted.as_slice(), text.as_slice())
 }
 
-/// Runs the statements of the step.
-fn run_sql<S: Alter>(
-    conn: &mut Connection<S>,
-    names: &mut Names,
-    step: &Step,
-) -> Result<(), Fault> {
-    let text = names.of(step, step.rest.as_str())?;
-    let Ok(text) = str::from_utf8(text.as_slice()) else {
-        return Err(Fault::Script("a statement is no text"));
-    };
-    match conn.execute_batch(text) {
-        Ok(()) => Ok(()),
-        Err(_) => Err(Fault::Store("a statement")),
+/// The text of the step's block, or of its line.
+fn text_of(names: &mut Names, step: &Step) -> Result<String, Fault> {
+    match String::from_utf8(names.of(step, step.rest.as_str())?) {
+        Ok(text) => Ok(text),
+        Err(_) => Err(Fault::Script("a statement is no text")),
     }
 }
 
-/// Takes a step. Returns the store, whatever became of it.
-fn take_over<S: Storage>(
+/// Takes a step of which the database is asked as a whole: its tables, or a statement.
+fn take_whole<S: Database>(
     alloc: Global,
-    mut store: Store<S>,
-    scene: &mut Scene,
-    names: &mut Names,
+    store: S,
+    names: &Names,
     step: &Step,
-) -> (Store<S>, Result<(), Fault>) {
-    let is_query = step.is("rows");
-    if !is_query && !step.is("sql") {
-        let taken = take(alloc, &mut store, scene, names, step);
-        return (store, taken);
+    text: &str,
+) -> Left<S> {
+    match step.word.as_str() {
+        "tables" => {
+            let (store, made) = store.with_tables(alloc);
+            (store, expect_lines(alloc, names, step, made))
+        }
+        "migrate" => {
+            let (store, made) = store.migrated(alloc);
+            (store, expect_lines(alloc, names, step, made))
+        }
+        "sql" => store.changed(alloc, text),
+        _ => {
+            let (store, found) = store.rows(alloc, text);
+            (store, expect_rows(alloc, names, step, found))
+        }
     }
-    let mut conn = store.into_connection();
-    let taken = if is_query {
-        expect_rows(alloc, &mut conn, names, step)
-    } else {
-        run_sql(&mut conn, names, step)
-    };
-    (Store::adopt(conn), taken)
 }
 
-/// Takes the step of a turn. Returns the store, whatever became of it.
-pub(crate) fn take_turn<S: Storage>(
+/// The words of the steps of which the database is asked as a whole.
+const WHOLE: &[&str] = &["tables", "migrate", "sql", "rows"];
+
+/// Takes the step of a turn.
+pub(crate) fn take_turn<S: Database>(
     alloc: Global,
-    store: Store<S>,
+    mut store: S,
     scene: &mut Scene,
     names: &mut Names,
     turn: &Turn<'_>,
-) -> (Store<S>, Result<(), Fault>) {
+) -> Left<S> {
     if let Some(number) = turn.number {
         if let Err(fault) = names.define_number("i", number) {
-            return (store, Err(fault));
+            return (Some(store), Err(fault));
         }
     }
-    take_over(alloc, store, scene, names, turn.step)
+    let step = turn.step;
+    if !WHOLE.iter().any(|word| step.is(word)) {
+        let taken = take(alloc, &mut store, scene, names, step);
+        return (Some(store), taken);
+    }
+    match text_of(names, step) {
+        Ok(text) => take_whole(alloc, store, names, step, text.as_str()),
+        Err(fault) => (Some(store), Err(fault)),
+    }
 }

@@ -1,11 +1,11 @@
 //! A work that is done once, while a test refuses some of its memory (tests/server/allocations.py). If it is refused,
 //! the store has what it had before, and after a restart that or what it has after the work, whole.
 
-use crate::files::{Disks, Done, Plan, Taken, crash, with_files};
+use crate::files::{Disks, Done, Plan, Taken, with_files};
 use crate::running::{Located, Setting};
 use crate::scene::Scene;
 use crate::script::Step;
-use crate::stopping::{Work, work_after};
+use crate::stopping::{Limits, Work, work_after};
 use crate::texts::Names;
 use calls::Fault;
 
@@ -52,6 +52,9 @@ impl Work<'_> {
         if !differs(&work) {
             return work;
         }
+        let Some(files) = files else {
+            return work;
+        };
         let plan = Plan::steps(others);
         let (_, found) = with_files(self.setting, files, scene, names, plan, false);
         found.work
@@ -59,7 +62,7 @@ impl Work<'_> {
 
     /// Compares what there is without the work.
     fn expect_before(&self, scene: &mut Scene, names: &mut Names) -> Taken {
-        let copies = self.copies(u64::MAX, u64::MAX)?;
+        let copies = self.copies(Limits::NONE)?;
         let plan = Plan::steps(self.before);
         let (_, found) = with_files(self.setting, copies, scene, names, plan, false);
         found.work
@@ -68,16 +71,19 @@ impl Work<'_> {
     /// Does the work once, and compares what there is then, and after a restart.
     fn try_once(&self, scene: &mut Scene, names: &mut Names) -> Result<(), Located> {
         self.expect_before(scene, names)?;
-        let copies = self.copies(u64::MAX, u64::MAX)?;
+        let copies = self.copies(Limits::NONE)?;
         let plan = Plan {
             work: self.work,
             done: self.after,
             refused: self.before,
             is_marked: true,
         };
-        let (mut files, done) = with_files(self.setting, copies, scene, names, plan, false);
-        let is_usable = files.may_be_used();
-        crash(&mut files);
+        let (left, done) = with_files(self.setting, copies, scene, names, plan, false);
+        let is_usable = match &left {
+            Some(files) => files.may_be_used(),
+            None => false,
+        };
+        let files = self.restarted(left)?;
         let Done { work, held } = done;
         match work {
             Ok(()) => {

@@ -1,7 +1,7 @@
 //! The line that explains a fault.
 
 use crate::addresses::address_cause;
-use crate::contents::contents_text;
+use crate::contents_text::contents_text;
 use crate::control_sockets::{asking_cause, making_cause};
 use crate::databases::database_cause;
 use crate::files::file_cause;

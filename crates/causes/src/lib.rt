@@ -6,7 +6,7 @@
 #![tactic(auto)]
 
 mod addresses;
-mod contents;
+mod contents_text;
 mod control_sockets;
 mod databases;
 mod explanations;

@@ -54,7 +54,7 @@ fn read_chunk<S: Store>(
         Ok(chunk) => Ok(chunk),
         Err(fault) => Err(PourFault {
             written,
-            cause: PourCause::Store(fault),
+            cause: PourCause::Store(fault.into()),
         }),
     }
 }

@@ -10,11 +10,11 @@ ghost use Rattle.chunks.specs.Pouring.{OfBytes};
 use crate::intake::name_of;
 use names::{Oid, Size};
 use sha2::{Digest, Sha256};
-use store::Store;
+use store::{ReadFault, Store};
 use tables::{StoreFault, UploadId};
 
 /// Whether the bytes that were hashed and counted are as many as `size`, and have this name.
-fn are_named(hasher: Sha256, count: u64, oid: &Oid, size: Size) -> Result<bool, StoreFault>
+fn are_named(hasher: Sha256, count: u64, oid: &Oid, size: Size) -> Result<bool, ReadFault>
     ensures { (bytes : List ℕ) → HasCounted hasher count bytes → IfOk result
         (λ named. named ≡ (nat_eq (length bytes) size && bytes_eq (name_of bytes) oid.now)) }
 {
@@ -27,13 +27,14 @@ fn are_named(hasher: Sha256, count: u64, oid: &Oid, size: Size) -> Result<bool, 
 ///
 /// # Errors
 ///
-/// `Refused` or `Memory`. The tables are unchanged in any case.
+/// `Unreadable` if the file of contents does not return a byte of them; `Refused` or `Memory`. The tables are unchanged
+/// in any case.
 pub fn is_whole<S: Store>(
     store: &mut S,
     upload: UploadId,
     oid: &Oid,
     size: Size,
-) -> Result<bool, StoreFault>
+) -> Result<bool, ReadFault>
     ensures exact { OfBytes S.State store.old store.new (upload_number upload) (λ bytes. IfOk result
         (λ whole. whole ≡ (nat_eq (length bytes) size && bytes_eq (name_of bytes) oid.now))) }
     ensures same { Moves S.State (λ t. t) store.old store.new }
@@ -48,11 +49,11 @@ pub fn is_whole<S: Store>(
         };
         let bytes = chunk.bytes();
         let Some(total) = count.checked_add(bytes.len() as u64) else {
-            return Err(StoreFault::Refused);
+            return Err(ReadFault::Store(StoreFault::Refused));
         };
         hasher.update(bytes);
         count = total;
         n += 1;
     }
-    Err(StoreFault::Refused)
+    Err(ReadFault::Store(StoreFault::Refused))
 }

@@ -62,7 +62,8 @@ pub(crate) fn make_contents(rt: &HostRuntime, db: &str) -> Result<(), Fault> {
 ///
 /// # Errors
 ///
-/// `Contents` if it does not exist, if another program has it open, or if it cannot be opened; and `Memory`.
+/// `Contents` if it does not exist, if it has a second name, if another program has it open, or if it cannot be opened;
+/// and `Memory`.
 pub(crate) fn open_contents<C: Start>(
     rt: &HostRuntime,
     db: &str,
@@ -71,6 +72,7 @@ pub(crate) fn open_contents<C: Start>(
     let path = contents_path(rt, db)?;
     // The call that opens a file makes one that is missing.
     match fs::metadata(rt, path.as_str()) {
+        Ok(found) if found.nlink() > 1 => return Err(refused(ContentsCause::Linked)),
         Ok(_) => {}
         Err(error) if error.kind() == ErrorKind::NotFound => {
             return Err(refused(ContentsCause::Missing));

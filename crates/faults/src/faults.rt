@@ -3,7 +3,7 @@
 ghost use Rattle.std.specs.Prelude.{◌≡◌};
 ghost use Rattle.faults.specs.Statuses.{status_of};
 
-use crate::contents::ContentsCause;
+use crate::contents_cause::ContentsCause;
 use command_line::ArgsFault;
 use control::{RequestFault, Status};
 use operator::{PathsFault, TaskFault};

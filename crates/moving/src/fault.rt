@@ -2,6 +2,7 @@
 
 use contents::ContentsFault;
 use std::alloc::AllocError;
+use store::ReadFault;
 use tables::StoreFault;
 
 /// Why a copy was not finished. What was copied stays, and is not copied again.
@@ -18,6 +19,12 @@ pub enum MoveFault {
 impl From<StoreFault> for MoveFault {
     fn from(fault: StoreFault) -> MoveFault {
         MoveFault::Store(fault)
+    }
+}
+
+impl From<ReadFault> for MoveFault {
+    fn from(fault: ReadFault) -> MoveFault {
+        MoveFault::Store(fault.into())
     }
 }
 

@@ -11,7 +11,6 @@ use Rattle.model.proofs.Checks.{find_ok}
 use Rattle.model.specs.World.{Object, IsObject, name_of, object_named}
 use Rattle.store.specs.Shown.{AddsNothing, HasTables, IsHonest, Moves}
 use Rattle.tables.specs.Staging.{upload_number}
-use Rattle.tables.specs.declared.fault.StoreFault.{StoreFault}
 use Rattle.tables.specs.declared.rows.ObjectRow.{ObjectRow}
 use Rattle.refinement.specs.Staging.{Stores}
 use Rattle.chunks.specs.Pouring.{OfBytes}
@@ -53,13 +52,13 @@ module _ {S : Type 0} (g : Ghosts S) where
   )
 
   -- a whole object is not found damaged
-  whole_passes : (a b : S) (row : UploadRow) (r : Result Bool StoreFault) → OfBytes g a b (upload_number row.id) (λ bytes. IfOk r (λ damaged. damaged ≡ not (has_bytes row bytes)))
+  whole_passes : {E : Type 0} (a b : S) (row : UploadRow) (r : Result Bool E) → OfBytes g a b (upload_number row.id) (λ bytes. IfOk r (λ damaged. damaged ≡ not (has_bytes row bytes)))
       → IsHonest g b → HasTables g a → IsWhole g a row → IfOk r (λ damaged. damaged ≡ false)
   whole_passes a b row (Ok damaged) exact honest ready w = subst (λ (x : Bool). damaged ≡ not x) w.2 (exact honest ready w.0 w.1)
   whole_passes a b row (Err e) exact honest ready w = tt
 
   -- an object that is stored as it was listed, and is then looked at
-  pub reads_damaged : (a b c : S) (row : UploadRow) (r : Result Bool StoreFault) → Reads g a b (λ world. IsWhole g b row) → Reads g b c (λ _. ⊤)
+  pub reads_damaged : {E : Type 0} (a b c : S) (row : UploadRow) (r : Result Bool E) → Reads g a b (λ world. IsWhole g b row) → Reads g b c (λ _. ⊤)
       → OfBytes g b c (upload_number row.id) (λ bytes. IfOk r (λ damaged. damaged ≡ not (has_bytes row bytes))) → Reads g a c (λ world. IfOk r (λ damaged. damaged ≡ false))
   reads_damaged a b c row r p q exact =
       let both = reads_then g a b c _ _ (λ _. ⊤) (λ world laws x y. tt) p q in
@@ -104,6 +103,30 @@ module _ {S : Type 0} (g : Ghosts S) where
   pub spares_damaged : (a b c d : S) (was mid is : Inspection) → From g a b (λ _. Spares g a b was mid) → Reads g b c (λ _. true ≡ false) → (IsHonest g d → IsHonest g c) → From g a d (λ _. Spares g a d was is)
   spares_damaged a b c d was mid is p q honest = never_damaged a b c d was mid (λ _. Spares g a d was is) p q honest
 
+  -- and then an object that could not be read
+  pub spares_then : (a b c : S) (was mid begun is : Inspection) → From g a b (λ _. Spares g a b was mid) → begun.damaged ≡ mid.damaged
+      → From g b c (λ _. Spares g b c begun is) → From g a c (λ _. Spares g a c was is)
+  spares_then a b c was mid begun is p same q = record {
+    honest = λ k. p.honest (q.honest k);
+    each = λ honest world h.
+        let before = p.each (q.honest honest) world h in
+        let more = q.each honest world (reads_lead g a b _ world before.reads h).holds in
+        record {
+          reads = reads_then g a b c _ _ (λ _. ⊤) (λ world laws x y. tt) before.reads more.reads;
+          none = more.none ∙ same ∙ before.none;
+        };
+  }
+
+  -- what is true of calls after an inspection that found none damaged
+  pub true_then : (a b c : S) (was mid : Inspection) (P : Type 0) → From g a b (λ _. Spares g a b was mid) → From g b c (λ _. P)
+      → From g a c (λ _. P)
+  true_then a b c was mid P p q = record {
+    honest = λ k. p.honest (q.honest k);
+    each = λ honest world h.
+        let before = p.each (q.honest honest) world h in
+        q.each honest world (reads_lead g a b _ world before.reads h).holds;
+  }
+
   -- an inspection that went on, with nothing found damaged before
   pub inspected_on : (a b c : S) (mid is : Inspection) → From g a b (λ _. Reads g a b (λ _. ⊤) × (mid.damaged ≡ 0)) → From g b c (λ _. Spares g b c mid is) → From g a c (λ _. Reads g a c (λ _. ⊤) × (is.damaged ≡ 0))
   inspected_on a b c mid is p q = record {
@@ -133,6 +156,11 @@ all_listed (o ∷ objects) = ap (λ (l : List Object). o ∷ l) (all_listed obje
 pub rows_length : {S : Type 0} (g : Ghosts S) (world : World) (s : S) (rows : List UploadRow) → Lists g world s None rows → length rows ≡ length world.objects
 rows_length g world s rows l =
     sym (AllZip-long (IsRowOf g s) rows l.objects l.each) ∙ sym (length_permutation l.objects (filter (is_listed None) world.objects) l.same) ∙ ap length (all_listed world.objects)
+
+-- what follows from what is so after a success
+pub on_ok_then : (r : Result ⊤ TaskFault) (P Q : Type 0) → OnOk r P → (P → OnOk r Q) → OnOk r Q
+on_ok_then (Ok u) P Q p says = says p
+on_ok_then (Err e) P Q p says = tt
 
 on_written : (P : Type 0) (r : Result ⊤ TaskFault) → IfWritten r P → OnOk r P
 on_written P (Ok u) p = p

@@ -6,7 +6,6 @@ mod Granting
 mod Pushed
 mod Ran
 mod Remotes
-pub mod Reached
 mod Foretold
 mod Removed
 mod Damaged

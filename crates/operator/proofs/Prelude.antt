@@ -1,9 +1,9 @@
 -- The names from other modules and crates that the proofs of this crate share.
-pub use Rattle.model.proofs.Left.{all_left, can_make, leaves_one_change, reports_are_true}
+pub use Rattle.model.proofs.Left.{reports_are_true}
 pub use Rattle.model.proofs.Progress.{run_append}
-pub use Rattle.model.specs.Bounds.{Bound, Ending, IsWithin, SameWorld, bound_after, bound_of_run, changed, ending_of, failed, intended_world, left_by, next_world, unchanged, world_by}
-pub use Rattle.model.specs.Steps.{Event, IsStep, Run, by_verdict, exchanged, issues, judgement, prunes}
-pub use Rattle.model.specs.World.{IsWorld, World, nothing}
+pub use Rattle.model.specs.Bounds.{Bound, bound_after}
+pub use Rattle.model.specs.Steps.{Event, IsStep, Run}
+pub use Rattle.model.specs.World.{IsWorld, World}
 pub use Rattle.names.specs.Names.{repo_text}
 pub use Rattle.operator.specs.Escapes.{escape, escaped, is_control, shown}
 pub use Rattle.operator.specs.Failing.{IsPlain}
@@ -13,9 +13,9 @@ pub use Rattle.operator.specs.Texts.{text_of}
 pub use Rattle.operator.specs.Works.{Work, Works, bound_of_works, keeps, steps_of, takes}
 pub use Rattle.operator.specs.declared.faults.TaskFault.{TaskFault}
 pub use Rattle.policy.specs.Values.{policy_view}
-pub use Rattle.refinement.proofs.Leading.{from_weaker, keeps_still, leads_none, reads_lead, reads_none, takes_then}
+pub use Rattle.refinement.proofs.Leading.{from_weaker, keeps_still, reads_lead, reads_none, takes_then}
 pub use Rattle.refinement.proofs.ReadOnly.{reads_then, reads_weaker}
-pub use Rattle.refinement.specs.Left.{From, IsAmong, IsBoundedBy, Keeps, Leads, Reads, Takes}
+pub use Rattle.refinement.specs.Left.{From, IsBoundedBy, Keeps, Leads, Reads, Takes}
 pub use Rattle.store.specs.declared.state.State.{Ghosts}
 pub use Rattle.std.proofs.Common.{Err, List, IfErr, IfOk, MatchResult, Ok, Result, Some, [], ap, append_assoc, arith, false, inl, inr, length, refl, rules, string_bytes, subst, sym, true, ℕ, ◌++◌, ◌∙◌, ◌∷◌, ◌≡◌, ◌≤◌, ◌⊎◌, flat_map, map, take, ap₂, ◌+◌, ◌<◌, get_or}
 pub use Rattle.std.proofs.lemmas.Result.{IfOk-weaker, err_from_is_err_and, on_ok_weaker}

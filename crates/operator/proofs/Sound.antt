@@ -16,7 +16,8 @@ use Rattle.store.specs.Shown.{Answers, HasTables, IsHonest, IsOpen, Moves, shown
 use Rattle.tables.specs.Rows.{Tables, Upload}
 use Rattle.tables.specs.Staging.{AreUploadsOf, IsObjectOf, Sized, UploadFields, objects_of, read_object, read_upload, upload_fields, upload_number, upload_sized}
 use Rattle.tables.specs.Statements.{by_name, is_complete, is_object, name_cmp, same_bytes}
-use Rattle.tables.specs.declared.fault.StoreFault.{StoreFault}
+use Rattle.store.specs.ReadFaults.{result_behind}
+use Rattle.store.specs.declared.read_fault.ReadFault.{ReadFault}
 use Rattle.tables.specs.declared.rows.ObjectRow.{ObjectRow}
 use Rattle.tables.specs.declared.rows.UploadId.{UploadId}
 use Rattle.refinement.proofs.Counts.{same_text}
@@ -47,8 +48,8 @@ none_same t row object has =
 
 module _ {S : Type 0} (g : Ghosts S) where
   -- an object that is stored as it was listed is sound, if its bytes are not damaged
-  pub looked_at : (a b c : S) (row : UploadRow) (r : Result Bool StoreFault) → Moves g (λ t. t) a b → (IsHonest g c → IsHonest g b) → (IsHonest g b → HasTables g a → IsOpen g a)
-      → OfBytes g b c (upload_number row.id) (λ bytes. IfOk r (λ damaged. damaged ≡ not (has_bytes row bytes))) → Answers g a c r (λ t damaged. damaged ≡ false → IsRowSound t row)
+  pub looked_at : (a b c : S) (row : UploadRow) (r : Result Bool ReadFault) → Moves g (λ t. t) a b → (IsHonest g c → IsHonest g b) → (IsHonest g b → HasTables g a → IsOpen g a)
+      → OfBytes g b c (upload_number row.id) (λ bytes. IfOk r (λ damaged. damaged ≡ not (has_bytes row bytes))) → Answers g a c (result_behind r) (λ t damaged. damaged ≡ false → IsRowSound t row)
   looked_at a b c row (Err e) same was opened exact honest ready = tt
   looked_at a b c row (Ok damaged) same was opened exact honest ready = (
     opened (was honest) ready,
@@ -138,19 +139,20 @@ all_sound t rows next are past sound repo name u found bytes stored =
 
 -- an inspection that has begun
 pub checked_none : {S : Type 0} (g : Ghosts S) (s : S) (is : Inspection) → is.next ≡ 0 → IsChecked g s is
-checked_none g s is none honest opened clean =
+checked_none g s is none honest opened clean read =
     let P : List UploadRow → Type 0 = All (IsRowSound (shown g s)) in
     let empty : P [] = search rules in
     subst (λ (n : ℕ). P (take n is.rows.items)) (sym none) empty
 
 -- an inspection whose store was only read
 pub checked_still : {S : Type 0} (g : Ghosts S) (a b : S) (is : Inspection) → Moves g (λ t. t) a b → HasTables g a → IsChecked g a is → IsChecked g b is
-checked_still g a b is same ready before honest opened clean =
-    subst (λ (t : Tables). All (IsRowSound t) (take is.next is.rows.items)) (sym (same.shows honest ready opened)) (before (same.was_honest honest) (same.was_open honest opened) clean)
+checked_still g a b is same ready before honest opened clean read =
+    subst (λ (t : Tables). All (IsRowSound t) (take is.next is.rows.items)) (sym (same.shows honest ready opened))
+    (before (same.was_honest honest) (same.was_open honest opened) clean read)
 
 -- an inspection that has gone over all objects, and found none damaged
 pub inspected_sound : {S : Type 0} (g : Ghosts S) (a b : S) (is : Inspection) → Moves g (λ t. t) a b → IsChecked g b is → vec_len is.rows ≤ is.next → is.damaged ≡ 0
-    → (IsHonest g b → HasTables g a → AreUploadsOf is.rows.items (objects_of None (shown g a))) → FindsSound g a b
-inspected_sound g a b is same checked done none are ready honest opened =
+    → is.unread ≡ 0 → (IsHonest g b → HasTables g a → AreUploadsOf is.rows.items (objects_of None (shown g a))) → FindsSound g a b
+inspected_sound g a b is same checked done none read are ready honest opened =
     all_sound (shown g b) is.rows.items is.next (subst (λ (t : Tables). AreUploadsOf is.rows.items (objects_of None t)) (sym (same.shows honest ready opened)) (are honest ready))
-    (subst (λ (n : ℕ). n ≤ is.next) is.rows.ok.0 done) (checked honest opened none)
+    (subst (λ (n : ℕ). n ≤ is.next) is.rows.ok.0 done) (checked honest opened none read)

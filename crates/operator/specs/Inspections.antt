@@ -7,7 +7,7 @@ use Rattle.refinement.specs.Left.{Reads}
 use Rattle.operator.specs.Damage.{IsRowSound}
 use Rattle.operator.specs.Lines.{count_line}
 use Rattle.operator.specs.declared.inspecting.Advance.{Advance}
-use Rattle.operator.specs.declared.inspecting.Advance.TheVariants.{Damaged, Done}
+use Rattle.operator.specs.declared.inspecting.Advance.TheVariants.{Damaged, Done, Unreadable}
 use Rattle.operator.specs.declared.inspecting.Inspection.{Inspection}
 use Rattle.operator.specs.declared.inspecting.Purpose.{Purpose}
 use Rattle.operator.specs.declared.inspecting.Purpose.TheVariants.{Check, Repair}
@@ -26,17 +26,19 @@ abbrev pub inspected_line : Purpose → (all damaged : ℕ) → List ℕ
 inspected_line Check all damaged = count_line (codes "checked") all (codes "objects")
 inspected_line Repair all damaged = count_line (codes "removed") damaged (codes "objects")
 
--- no object is reported as damaged
-abbrev pub IsQuiet : Advance → Type 0
-IsQuiet (Damaged line) = ⊥
-IsQuiet _ = ⊤
+-- no object is reported as damaged, and one that is reported as unreadable is counted as such
+abbrev pub IsQuiet : Inspection → Advance → Type 0
+IsQuiet is (Damaged line) = ⊥
+IsQuiet is (Unreadable line) = is.unread ≡ 0 → ⊥
+IsQuiet is _ = ⊤
 
 -- an inspection is done only if it has gone over all objects that were stored when it began
 abbrev pub IsDoneAtEnd : Inspection → Advance → Type 0
 IsDoneAtEnd is Done = vec_len is.rows ≤ is.next
 IsDoneAtEnd is _ = ⊤
 
--- if an inspection has found none damaged, those that it has gone over are sound, whatever the tables hold
+-- if an inspection has found none damaged and none unreadable, those that it has gone over are sound, whatever the tables
+-- hold
 abbrev pub IsChecked : {S : Type 0} → Ghosts S → S → Inspection → Type 0
 IsChecked g s is =
-    IsHonest g s → IsOpen g s → is.damaged ≡ 0 → All (IsRowSound (shown g s)) (take is.next is.rows.items)
+    IsHonest g s → IsOpen g s → is.damaged ≡ 0 → is.unread ≡ 0 → All (IsRowSound (shown g s)) (take is.next is.rows.items)

@@ -8,7 +8,6 @@ pub mod Paths
 pub mod Listed
 pub mod Removals
 pub mod Works
-pub mod Reached
 pub mod Tasks
 pub mod Damage
 pub mod Tokens

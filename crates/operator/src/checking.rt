@@ -8,12 +8,11 @@ ghost use Rattle.operator.specs.Damage.{has_bytes};
 
 use chunks::is_whole;
 use std::io::{Stderr, Write};
-use store::Store;
-use tables::StoreFault;
+use store::{ReadFault, Store};
 use uploads::Stored;
 
 /// Whether the stored bytes of the object are not as many as its size says, or do not have its name.
-pub(crate) fn is_damaged<S: Store>(store: &mut S, row: &Stored) -> Result<bool, StoreFault>
+pub(crate) fn is_damaged<S: Store>(store: &mut S, row: &Stored) -> Result<bool, ReadFault>
     ensures exact { OfBytes S.State store.old store.new (upload_number row.now.id) (λ bytes. IfOk result
         (λ damaged. damaged ≡ not (has_bytes row.now bytes))) }
     ensures reads { Reads S.State store.old store.new (λ _. ⊤) }

@@ -4,6 +4,7 @@ ghost use Rattle.std.specs.Prelude.{◌≡◌, ⊤, false, length, true, string_
 ghost use Rattle.std.specs.Io.KnownBytes.{Appends};
 ghost use Rattle.store.specs.Shown.{Answers, HasTables, IsHonest, shown};
 ghost use Rattle.tables.specs.Staging.{AreUploadsOf, objects_of};
+ghost use Rattle.store.specs.ReadFaults.{result_behind};
 ghost use Rattle.refinement.specs.Left.{From, Reads};
 ghost use Rattle.operator.specs.Damage.{FindsSound, HasRow, IsRowSound, IsWhole};
 ghost use Rattle.operator.specs.Failing.{IsPlain};
@@ -20,7 +21,7 @@ use names::Sink;
 use sha2::{Digest, Sha256};
 use std::alloc::{AllocError, Global};
 use std::io::Stderr;
-use store::Store;
+use store::{ReadFault, Store};
 use tables::{ObjectRow, StoreFault};
 use uploads::Stored;
 
@@ -50,6 +51,8 @@ pub enum Advance {
     More,
     /// An object is damaged; the line that reports it, or its removal, with its end.
     Damaged(String),
+    /// The file of contents does not return the bytes of an object; the same line.
+    Unreadable(String),
     /// No object is left.
     Done,
 }
@@ -86,7 +89,7 @@ impl ObjectReading {
     }
 
     /// Reads the next slice of the object.
-    fn advance<S: Store>(mut self, store: &mut S, row: &Stored) -> Result<Pass, StoreFault>
+    fn advance<S: Store>(mut self, store: &mut S, row: &Stored) -> Result<Pass, ReadFault>
         ensures { Reads S.State store.old store.new (λ _. ⊤) }
     {
         'chunks: for _ in 0..CHUNKS {
@@ -138,10 +141,10 @@ fn is_stored<S: Store>(store: &mut S, row: &Stored) -> Result<bool, StoreFault>
 }
 
 /// Whether the object is still stored, and is damaged. No object of a world is.
-fn is_still_damaged<S: Store>(store: &mut S, row: &Stored) -> Result<bool, StoreFault>
+fn is_still_damaged<S: Store>(store: &mut S, row: &Stored) -> Result<bool, ReadFault>
     ensures world { Reads S.State store.old store.new (λ world. IfOk result
         (λ damaged. damaged ≡ false)) }
-    ensures exact { Answers S.State store.old store.new result (λ t damaged.
+    ensures exact { Answers S.State store.old store.new (result_behind result) (λ t damaged.
         damaged ≡ false → IsRowSound t row.now) }
 {
     if is_stored(store, row)? {
@@ -157,7 +160,7 @@ fn verdict_by_slices<S: Store>(
     store: &mut S,
     row: &Stored,
     reading: &mut Option<ObjectReading>,
-) -> Result<Option<bool>, StoreFault>
+) -> Result<Option<bool>, ReadFault>
     ensures { Reads S.State store.old store.new (λ world. IfOk result
         (λ found. IfSome found (λ damaged. damaged ≡ false))) }
 {
@@ -178,10 +181,10 @@ fn verdict_on<S: Store>(
     row: &Stored,
     reading: &mut Option<ObjectReading>,
     pauses: bool,
-) -> Result<Option<bool>, StoreFault>
+) -> Result<Option<bool>, ReadFault>
     ensures world { Reads S.State store.old store.new (λ world. IfOk result
         (λ found. IfSome found (λ damaged. damaged ≡ false))) }
-    ensures exact { pauses ≡ false → Answers S.State store.old store.new result (λ t found.
+    ensures exact { pauses ≡ false → Answers S.State store.old store.new (result_behind result) (λ t found.
         found ≡ Some false → IsRowSound t row.now) }
 {
     if pauses && row.size.get() > SLICE {
@@ -212,6 +215,28 @@ impl Purpose {
         }
         Ok(line)
     }
+
+    /// Does what is to be done with an object whose bytes could not be read: as with a damaged one, but before it is
+    /// removed the store notes that a content is lost.
+    fn give_up<S: Store>(
+        self,
+        alloc: Global,
+        store: &mut S,
+        row: &Stored,
+    ) -> Result<String, TaskFault>
+        ensures world { From S.State store.old store.new (λ _. Reads S.State store.old store.new (λ _. ⊤)) }
+        ensures reads { self ≡ Purpose.Check → Reads S.State store.old store.new (λ _. ⊤) }
+        ensures lost { OnOk result (self ≡ Purpose.Repair → IsHonest S.State store.new → ⊥) }
+        ensures err { IfErr result IsPlain }
+    {
+        if self == Purpose::Check {
+            return self.treat(alloc, store, row);
+        }
+        if !store.note_loss() {
+            return Err(TaskFault::Store(StoreFault::Refused));
+        }
+        self.treat(alloc, store, row)
+    }
 }
 
 /// A check or a repair of all objects, which may pause between two of them.
@@ -226,8 +251,10 @@ pub struct Inspection {
     next: usize,
     /// What was read of the next one, if that is larger than a slice.
     reading: Option<ObjectReading>,
-    /// How many were damaged.
+    /// How many were damaged. Of a repair, also those that were removed since they could not be read.
     damaged: u64,
+    /// How many a check could not read.
+    unread: u64,
 }
 
 impl Inspection {
@@ -263,14 +290,55 @@ impl Inspection {
             next: 0,
             reading: None,
             damaged: 0,
+            unread: 0,
         })
+    }
+
+    /// Counts an object whose bytes could not be read.
+    fn count_unreadable(&mut self)
+        ensures purpose { self.new.purpose ≡ self.old.purpose }
+        ensures pauses { self.new.pauses ≡ self.old.pauses }
+        ensures rows { self.new.rows ≡ self.old.rows }
+        ensures damaged { self.old.purpose ≡ Purpose.Check → self.new.damaged ≡ self.old.damaged }
+        ensures read { self.old.purpose ≡ Purpose.Check → self.new.unread ≡ 0 → ⊥ }
+        ensures unread { self.new.unread ≡ 0 → self.old.unread ≡ 0 }
+        ensures counted { self.new.damaged ≡ 0 → self.new.unread ≡ 0 → ⊥ }
+    {
+        self.next = self.next.saturating_add(1);
+        match self.purpose {
+            Purpose::Check => self.unread = self.unread.saturating_add(1),
+            Purpose::Repair => self.damaged = self.damaged.saturating_add(1),
+        }
+    }
+
+    /// Does what is to be done with the next object, whose bytes could not be read.
+    fn give_up<S: Store>(&mut self, alloc: Global, store: &mut S) -> Result<Advance, TaskFault>
+        ensures world { From S.State store.old store.new (λ _.
+            Spares S.State store.old store.new self.old self.new) }
+        ensures reads { self.old.purpose ≡ Purpose.Check → Reads S.State store.old store.new (λ _. ⊤) }
+        ensures purpose { self.new.purpose ≡ self.old.purpose }
+        ensures pauses { self.new.pauses ≡ self.old.pauses }
+        ensures rows { self.new.rows ≡ self.old.rows }
+        ensures unread { self.new.unread ≡ 0 → self.old.unread ≡ 0 }
+        ensures counted { OnOk result (self.new.damaged ≡ 0 → self.new.unread ≡ 0 → ⊥) }
+        ensures quiet { From S.State store.old store.new (λ _. IfOk result (IsQuiet self.new)) }
+        ensures done { IfOk result (IsDoneAtEnd self.new) }
+        ensures err { IfErr result IsPlain }
+    {
+        let Some(row) = self.rows.get(self.next) else {
+            return Err(TaskFault::Store(StoreFault::Refused));
+        };
+        let line = self.purpose.give_up(alloc, store, row)?;
+        self.count_unreadable();
+        Ok(Advance::Unreadable(line))
     }
 
     /// Inspects the next objects, or a slice of one: about 1 MiB, and at most 64 objects. It ends with a damaged one. An
     /// object that was removed since the inspection began is passed over, and one that was stored since is not inspected.
     ///
-    /// Of a store that holds a world, nothing is changed, and no object is damaged. Whatever the tables hold, an inspection
-    /// without pauses that finds none damaged has gone over objects that have the bytes of their names.
+    /// Of a store that holds a world, nothing is changed, and no object is damaged, unless a repair removes one that the
+    /// file of contents does not return: the disk is not honest then. Whatever the tables hold, an inspection without
+    /// pauses that finds none damaged and none unreadable has gone over objects that have the bytes of their names.
     ///
     /// # Errors
     ///
@@ -284,7 +352,8 @@ impl Inspection {
         ensures rows { self.new.rows ≡ self.old.rows }
         ensures checked { OnOk result (self.old.pauses ≡ false → HasTables S.State store.old
             → IsChecked S.State store.old self.old → IsChecked S.State store.new self.new) }
-        ensures quiet { From S.State store.old store.new (λ _. IfOk result IsQuiet) }
+        ensures unread { self.new.unread ≡ 0 → self.old.unread ≡ 0 }
+        ensures quiet { From S.State store.old store.new (λ _. IfOk result (IsQuiet self.new)) }
         ensures done { IfOk result (IsDoneAtEnd self.new) }
         ensures err { IfErr result IsPlain }
     {
@@ -296,10 +365,12 @@ impl Inspection {
             let Some(row) = self.rows.get(self.next) else {
                 return Ok(Advance::Done);
             };
-            match verdict_on(store, row, &mut self.reading, self.pauses)? {
-                None => return Ok(Advance::More),
-                Some(false) => {}
-                Some(true) => {
+            match verdict_on(store, row, &mut self.reading, self.pauses) {
+                Err(ReadFault::Unreadable) => return self.give_up(alloc, store),
+                Err(ReadFault::Store(fault)) => return Err(fault.into()),
+                Ok(None) => return Ok(Advance::More),
+                Ok(Some(false)) => {}
+                Ok(Some(true)) => {
                     let line = self.purpose.treat(alloc, store, row)?;
                     self.damaged = self.damaged.saturating_add(1);
                     self.next += 1;
@@ -330,17 +401,22 @@ impl Inspection {
     ///
     /// # Errors
     ///
-    /// `Output` if it could not be written, and `Reported` if a check found an object damaged.
+    /// `Output` if it could not be written, `Store` if a check could not read an object, and else `Reported` if it found
+    /// one damaged.
     pub fn finish<K: Sink>(&self, output: &mut K) -> Result<(), TaskFault>
         ensures text { IfWritten result (Appends (K.taken output.old) (K.taken output.new)
             (line (inspected_line self.now.purpose (vec_len self.now.rows) self.now.damaged))) }
         ensures good { OnOk result (K.failed output.new ≡ K.failed output.old) }
         ensures none { OnOk result (self.now.purpose ≡ Purpose.Check → self.now.damaged ≡ 0) }
+        ensures read { OnOk result (self.now.unread ≡ 0) }
         ensures err { self.now.damaged ≡ 0 → IfErr result IsPlain }
     {
         match self.purpose {
             Purpose::Check => print_count(output, "checked", self.rows.len() as u64, "objects")?,
             Purpose::Repair => print_count(output, "removed", self.damaged, "objects")?,
+        }
+        if self.unread > 0 {
+            return Err(TaskFault::Store(StoreFault::Refused));
         }
         if self.purpose == Purpose::Check && self.damaged > 0 {
             return Err(TaskFault::Reported);
@@ -350,13 +426,14 @@ impl Inspection {
 }
 
 /// Hashes each object again, in the order of repositories and names, prints a line for each one that is damaged, and
-/// removes it if that is the purpose; and then prints their number. One chunk at a time is in memory. Shows how far it is
+/// removes it if that is the purpose; and then prints their number. One whose bytes the file of contents does not return is
+/// a damaged one. One chunk at a time is in memory. Shows how far it is
 /// on the terminal, if there is one.
 ///
 /// # Errors
 ///
-/// `Store` and `Memory`, `Output` if a line could not be written, and `Reported` if a check found an object damaged. Of a
-/// repair, the objects for which a line was written are removed, and perhaps the next one.
+/// `Store`, also if a check could not read an object, and `Memory`, `Output` if a line could not be written, and
+/// `Reported` if a check found an object damaged. Of a repair, the objects for which a line was written are removed, and perhaps the next one.
 pub(crate) fn inspect_all<S: Store, K: Sink>(
     alloc: Global,
     store: &mut S,
@@ -380,7 +457,7 @@ pub(crate) fn inspect_all<S: Store, K: Sink>(
         progress.show(inspection.progress(alloc)?.as_str());
         match inspection.advance(alloc, store)? {
             Advance::More => {}
-            Advance::Damaged(line) => {
+            Advance::Damaged(line) | Advance::Unreadable(line) => {
                 progress.clear();
                 print(output, line.as_bytes())?;
             }

@@ -65,7 +65,7 @@ module _ {T D : Type 0} (g : Ghosts T) (d : disk.Ghosts D) (old : Placed T D) (r
             same_seal = refl;
             unsealed = w.unsealed;
             changed = w.altered;
-          }) (asked_chunk id n bytes) (sym of_upload) (λ h k. received (h.placed (k.0, w.altered.clean k.1))) (λ before k. more before));
+          }) (asked_chunk id n bytes) (sym of_upload) (λ h k. received (h.placed (k.0, (w.altered.clean k.1.0, k.1.1)))) (λ before k. more before));
       failed = tt;
     }
 
@@ -86,6 +86,6 @@ module _ {T D : Type 0} (g : Ghosts T) (d : disk.Ghosts D) (old : Placed T D) (r
           same_seal = refl;
           unsealed = w.unsealed;
           changed = w.altered;
-        }) (λ h k. still_received g d mid w (h.placed (k.0, w.altered.clean k.1)))
+        }) (λ h k. still_received g d mid w (h.placed (k.0, (w.altered.clean k.1.0, k.1.1))))
         (λ before k. still_pieces g d mid w before) refl (λ t v. v ≡ after t));
   }

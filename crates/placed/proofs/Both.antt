@@ -1,5 +1,5 @@
 -- A call on the database is a call on it and its file, for a step whose effect on both is known.
-use Rattle.placed.proofs.Prelude.{◌≡◌, inl, inr, ℕ, List, [], IsTrue, ap, ◌∙◌, AllByRecursion, all_weaker, Chunk, Tables, Ghosts, settled, Remains, IsOpen, HasTables, Leaves, shown, Moves, AddsAny, Makes, Puts, FailsAny, Placed, Staged, view, pieces_at, IsPlace, staged_of, AreHonest, shown_with, IsPlaced, HasPlaces, beside}
+use Rattle.placed.proofs.Prelude.{◌≡◌, inl, inr, ℕ, List, [], IsTrue, ap, ◌∙◌, AllByRecursion, all_weaker, Chunk, Tables, Ghosts, settled, Remains, IsOpen, HasTables, Leaves, shown, Moves, AddsAny, Makes, Puts, FailsAny, Placed, Staged, view, pieces_at, IsPlace, staged_of, AreHonest, IsFileHonest, shown_with, IsPlaced, HasPlaces, beside}
 use Rattle.sqlite_disk.specs.declared.Disk as disk
 use Rattle.store.specs.Normal.{AreMarked}
 use Rattle.placed.proofs.Keeping.{pieces_alike, AgreeAt}
@@ -17,7 +17,7 @@ module _ {T D : Type 0} (g : Ghosts T) (d : disk.Ghosts D) where
   alike s left may cs = all_weaker (IsPlace d s.disk s.regions (staged_of s)) (λ c. pieces_at left c ≡ pieces_at (d.seen s.disk) c)
       (λ c p. pieces_alike left (d.seen s.disk) c p.region p.kept.content p.means (p.kept.left left may) p.kept.seen) cs
 
-  module _ (old new : Placed T D) (clean : IsTrue (d.is_clean new.disk) → IsTrue (d.is_clean old.disk))
+  module _ (old new : Placed T D) (clean : IsFileHonest d new → IsFileHonest d old)
       (placed : HasPlaces g d old → AreHonest g d new → IsPlaced g d new) where
     -- it shows what it is to show, if the rows show these tables
     abbrev pub ShowsAfter : (Tables → Tables) → (Tables → Tables) → Type 0

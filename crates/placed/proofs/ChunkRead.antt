@@ -1,14 +1,20 @@
 -- The calls that read a chunk: of the database, of where its content is, and of the file.
-use Rattle.placed.proofs.Prelude.{◌≡◌, ◌≢◌, ℕ, pos, List, find, Option, Some, None, option_map, Result, Ok, IsTrue, sym, ap, subst, ◌∙◌, IfOk, IsErr, Region, HasContent, IsSameFile, Tables, is_chunk, upload_number, StoreFault, UploadId, content_bytes, IsContentOf, ChunkContent, Ghosts, IsHonest, IsOpen, shown, Moves, AddsNothing, Reads, nothing_then, Placed, place_number, piece_of, IsRegionOf, staged_of, AreHonest, shown_with, IsPlaced, HasPlaces, beside}
+use Rattle.placed.proofs.Prelude.{◌≡◌, ◌≢◌, false, ℕ, pos, List, find, Option, Some, None, option_map, Result, Ok, Err, IsTrue, sym, ap, subst, ◌∙◌, IfOk, IsErr, Region, HasContent, IsSameFile, Tables, is_chunk, upload_number, StoreFault, UploadId, content_bytes, IsContentOf, ChunkContent, Ghosts, IsHonest, IsOpen, shown, Moves, AddsNothing, Reads, nothing_then, Placed, place_number, piece_of, IsRegionOf, staged_of, AreHonest, shown_with, IsPlaced, HasPlaces, beside}
 use Rattle.std.proofs.lemmas.Result.{IfOk-from_err}
 use Rattle.sqlite_disk.specs.declared.Disk as disk
 use Rattle.store.proofs.Moved.{moves_then}
+use Rattle.store.specs.ReadFaults.{result_behind}
+use Rattle.store.specs.declared.read_fault.ReadFault.{ReadFault}
 use Rattle.placed.proofs.Seeking.{row-found, nowhere-found}
 use Rattle.placed.proofs.After.{reads_after}
 use Rattle.placed.proofs.Located.{found_some, found_none}
 use Rattle.placed.proofs.Fetched.{other_pos, fetched}
 use Rattle.placed.proofs.Restaged.{reads_both}
 use Rattle.placed.proofs.Keeping.{file_itself}
+
+pub err_behind : {X : Type 0} (r : Result X ReadFault) → IsErr r → IsErr (result_behind r)
+err_behind (Ok x) err = err
+err_behind (Err fault) err = err
 
 module _ {T D : Type 0} (g : Ghosts T) (d : disk.Ghosts D) (s : Placed T D) where
   -- a call of the database failed
@@ -30,7 +36,8 @@ module _ {T D : Type 0} (g : Ghosts T) (d : disk.Ghosts D) (s : Placed T D) wher
     reads_last r P says =
         subst (λ (it : Placed T D). Reads (beside g d) s (record it { disk = disk }) r P) (sym rest)
         (reads_both g d s then.rows disk (moves_then g s.rows between then.rows m m') (nothing_then g s.rows between then.rows a a')
-        (subst (λ (it : D). IsSameFile d it disk) disk_is same) r P says)
+        (subst (λ (it : D). IsSameFile d it disk) disk_is same) r P
+        (λ k h. says (k.0, (k.1.0, ap (λ (it : Placed T D). it.has_lost) rest ∙ k.1.1)) h))
 
     -- one of the calls failed
     pub failed_last : {X : Type 0} (r : Result X StoreFault) (P : Tables → X → Type 0) → IsErr r
@@ -92,11 +99,12 @@ module _ {T D : Type 0} (g : Ghosts T) (d : disk.Ghosts D) (s : Placed T D) wher
           reads_last between then rest e.same e.adds e'.same e'.adds disk same (Ok piece) IsRead (λ k h.
           let no = no_row k.0 h in
           let at : then.disk ≡ s.disk = ap (λ (it : Placed T D). it.disk) rest in
-          let clean : IsTrue (d.is_clean s.disk) = subst (λ (it : D). IsTrue (d.is_clean it)) at (same.clean k.1) in
-          let placed : IsPlaced g d s = h.placed (e.same.was_honest (e'.same.was_honest k.0), clean) in
+          let clean : IsTrue (d.is_clean s.disk) = subst (λ (it : D). IsTrue (d.is_clean it)) at (same.clean k.1.0) in
+          let kept : s.has_lost ≡ false = sym (ap (λ (it : Placed T D). it.has_lost) rest) ∙ k.1.1 in
+          let placed : IsPlaced g d s = h.placed (e.same.was_honest (e'.same.was_honest k.0), (clean, kept)) in
           let where_is = subst (IsRegionOf (upload_number upload) (staged_of s) (shown g s.rows)) is (region_known k.0 h) in (
             no.0,
             fetched d s.disk s.regions (staged_of s) (shown g s.rows) placed.received (placed.served no.0) (upload_number upload) n other no.1
                 region where_is (option_map content_bytes piece)
-                (λ content has. says k.1 content (subst (λ (it : D). HasContent (d.seen it) region content) (sym at) has)),
+                (λ content has. says k.1.0 content (subst (λ (it : D). HasContent (d.seen it) region content) (sym at) has)),
           ))

@@ -1,5 +1,5 @@
 -- How the completion of a content in the file ends.
-use Rattle.placed.proofs.Prelude.{AreBeside, ArePlacesApart, IsAscending, IsBeside, region_in, ◌≡◌, ◌≢◌, inl, inr, suc, take, drop, ℕ, ℤ, true, List, [], ◌∷◌, ◌++◌, map, filter, Some, None, Result, Ok, Err, refl, sym, ap, subst, ◌∙◌, true≢false, IsTrue, IsErr, Vec, AllByRecursion, flat_map, all_weaker, all-append, Region, Draft, Chunk, Tables, upload_number, completion_of, after_complete, asked_chunk, StoreFault, LastChunk, Completion, UploadId, Ghosts, normal, settled, Remains, arranged, IsHonest, IsOpen, HasTables, shown, Moves, AddsNothing, Changes, Placed, Staged, pieces, place_number, is_place, is_piece, view, others_of, pieces_at, AreSeparate, OfOthers, IsStagedIn, IsPlace, IsReceived, IsServed, HasSinglePlaces, places_in, staged_of, AreHonest, shown_with, IsPlaced, HasPlaces, beside, place_in, AreOfOthers, is_some, find, is_staged_with, AreStagedApart}
+use Rattle.placed.proofs.Prelude.{AreBeside, ArePlacesApart, IsAscending, IsBeside, region_in, ◌≡◌, ◌≢◌, inl, inr, suc, take, drop, ℕ, ℤ, true, false, List, [], ◌∷◌, ◌++◌, map, filter, Some, None, Result, Ok, Err, refl, sym, ap, subst, ◌∙◌, true≢false, IsTrue, IsErr, Vec, AllByRecursion, flat_map, all_weaker, all-append, Region, Draft, Chunk, Tables, upload_number, completion_of, after_complete, asked_chunk, StoreFault, LastChunk, Completion, UploadId, Ghosts, normal, settled, Remains, arranged, IsHonest, IsOpen, HasTables, shown, Moves, AddsNothing, Changes, Placed, Staged, pieces, place_number, is_place, is_piece, view, others_of, pieces_at, AreSeparate, OfOthers, IsStagedIn, IsPlace, IsReceived, IsServed, HasSinglePlaces, places_in, staged_of, AreHonest, shown_with, IsPlaced, HasPlaces, beside, place_in, AreOfOthers, is_some, find, is_staged_with, AreStagedApart}
 use Rattle.sqlite_disk.specs.declared.Disk as disk
 use Rattle.sqlite_keyed.proofs.ListLemmas.{flat_map-map}
 use Rattle.tables.specs.declared.rows.Completion.TheVariants as completion
@@ -58,7 +58,7 @@ module _ {T D : Type 0} (g : Ghosts T) (d : disk.Ghosts D) (old : Placed T D) (m
         fails_after (beside g d) old (record old { rows = mid }) (record old { rows = mid; disk = file })
         (still g d old mid moved added) (nothing g d old mid added) (λ t v. v ≡ after t)
         (write_fails g d (record old { rows = mid }) old.staged (unchanged g d old w)
-        (λ h k. still_received g d (record old { rows = mid }) w (h.placed (k.0, w.altered.clean k.1)))
+        (λ h k. still_received g d (record old { rows = mid }) w (h.placed (k.0, (w.altered.clean k.1.0, k.1.1))))
         (λ before k. still_pieces g d (record old { rows = mid }) w before) refl (λ t v. v ≡ after t));
   }
 
@@ -139,15 +139,15 @@ module _ {T D : Type 0} (g : Ghosts T) (d : disk.Ghosts D) (old : Placed T D) (m
       whole : Changes g old.rows rows r step Says
       whole = changes_after g old.rows mid rows moved added Says step r call
 
-      honest_old : IsTrue (d.is_clean file) → IsHonest g rows → AreHonest g d old
-      honest_old k h = (moved.was_honest (before_call h), w.altered.clean k)
+      honest_old : IsTrue (d.is_clean file) × (old.has_lost ≡ false) → IsHonest g rows → AreHonest g d old
+      honest_old k h = (moved.was_honest (before_call h), (w.altered.clean k.0, k.1))
 
       -- the upload is complete
       pub completed : r ≡ Ok completion.New → (ls : Vec Staged) → ls.items ≡ others_of id (staged_of old)
           → Changes (beside g d) old (next ls) (Ok completion.New) after Says
       completed same_result ls is = record {
         answers = λ k h. let it = all.answers k.0 h.kept.rows in (it.0, says_seen (d.seen old.disk) (staged_of old) t completion.New it.1);
-        made = makes g d old (next ls) w.altered.clean placed step after all.made
+        made = makes g d old (next ls) (λ k. (w.altered.clean k.0, k.1)) placed step after all.made
             (λ h k o. let before = h.placed (honest_old k.1 k.0) in
             ap (λ xs. view (d.seen file) xs (step t)) (is_around before) ∙ both_shown before (before.served (all.made.was_open k.0)) (new h k));
         failed = tt;
@@ -226,7 +226,7 @@ module _ {T D : Type 0} (g : Ghosts T) (d : disk.Ghosts D) (old : Placed T D) (m
           → Changes (beside g d) old (record old { rows = rows; disk = file }) (Ok x) after Says
       not_completed x other same_result = record {
         answers = λ k h. let it = all.answers k.0 h.kept.rows in (it.0, says_seen (d.seen old.disk) (staged_of old) t x it.1);
-        made = makes g d old (record old { rows = rows; disk = file }) w.altered.clean placed step after all.made
+        made = makes g d old (record old { rows = rows; disk = file }) (λ k. (w.altered.clean k.0, k.1)) placed step after all.made
             (λ h k o. let before = h.placed (honest_old k.1 k.0) in
             let opened = all.made.was_open k.0 in
             ap (view (d.seen file) (staged_of old)) (unchanged h k) ∙ same_view before opened
@@ -264,7 +264,7 @@ module _ {T D : Type 0} (g : Ghosts T) (d : disk.Ghosts D) (old : Placed T D) (m
       completion_failed fault same_result sealed same_id same_draft shut ls is = record {
         answers = λ k h. tt;
         made = tt;
-        failed = fails g d old (next ls) w.altered.clean placed (λ o v. v ≡ step o) (λ o v. v ≡ after o) all.failed
+        failed = fails g d old (next ls) (λ k. (w.altered.clean k.0, k.1)) placed (λ o v. v ≡ step o) (λ o v. v ≡ after o) all.failed
             (λ h k o. view_alike (d.seen file) ls.items (staged_of old) t same_drafts ∙ same_view
             (h.placed (honest_old k.1 k.0)) (all.failed.moves.was_open k.0 o))
             (λ h k. goes_back g d old old.staged (unchanged g d old w) (h.placed (honest_old k.1 k.0)))

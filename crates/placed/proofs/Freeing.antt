@@ -137,13 +137,13 @@ module _ {T D : Type 0} (g : Ghosts T) (d : disk.Ghosts D) (s : Placed T D) (row
 
   pub made_freed : (step after : Tables → Tables) → Makes g step s.rows rows → GoesOn g d s rows mid ls step after
       → (Known g d s rows → IsUnused (step (shown g s.rows))) → Makes (beside g d) after s next
-  made_freed step after m go unused = makes g d s next altered.clean placed step after m shows
+  made_freed step after m go unused = makes g d s next (λ k. (altered.clean k.0, k.1)) placed step after m shows
     where
       t : Tables
       t = step (shown g s.rows)
 
       honest : AreHonest g d next → AreHonest g d (record s { rows = rows; regions = mid; staged = ls })
-      honest k = (k.0, altered.clean k.1)
+      honest k = (k.0, (altered.clean k.1.0, k.1.1))
 
       before : HasPlaces g d s → AreHonest g d next → Known g d s rows
       before h k = known g d s rows m.moves.was_honest h (honest k) (m.was_open k.0)

@@ -101,7 +101,7 @@ module _ {T D : Type 0} (g : Ghosts T) (d : disk.Ghosts D) (rows read : T) (file
     serves_cleared : AreHonest g d s → AllByRecursion Serves (places_in (cleared before))
     serves_cleared k =
         places_without Serves ids before
-        (all_weaker (IsTaken (regions_of s.regions)) Serves (serves k.1) (places_in before)
+        (all_weaker (IsTaken (regions_of s.regions)) Serves (serves k.1.0) (places_in before)
         (taken (by.some.was_honest k.0) h).1.each)
 
     served : AreHonest g d s → IsServed d s.disk s.regions (staged_of s) (cleared before)

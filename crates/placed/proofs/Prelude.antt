@@ -10,7 +10,7 @@ pub use Rattle.placed.specs.Altered.{IsAlteredBy}
 pub use Rattle.placed.specs.Kept.{AreBeside, ArePlacesApart, AreReceived, AreSeparate, AreStagedApart, HasSinglePlaces, IsBeside, IsPlace, IsReceived, IsServed, IsStagedIn, OfOthers, places_in}
 pub use Rattle.placed.specs.Pieces.{cut_into, piece_size}
 unfoldable pub use Rattle.placed.specs.Pieces.{pieces}
-pub use Rattle.placed.specs.Placed.{AreHonest, HasPlaces, IsPlaced, beside, shown_with, staged_of}
+pub use Rattle.placed.specs.Placed.{AreHonest, IsFileHonest, HasPlaces, IsPlaced, beside, shown_with, staged_of}
 pub use Rattle.placed.specs.Places.{is_piece, is_place, place_number, place_of, region_in}
 pub use Rattle.placed.specs.Reading.{piece_of}
 pub use Rattle.placed.specs.Seeking.{AreOfOthers, IsRegionOf, IsTruncated, place_in}

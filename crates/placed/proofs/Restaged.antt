@@ -159,7 +159,7 @@ module _ {T D : Type 0} (g : Ghosts T) (d : disk.Ghosts D) (s : Placed T D) wher
     }
 
     pub still_with : Moves g (λ t. t) s.rows rows → AddsNothing g s.rows rows → Moves (beside g d) (λ t. t) s read
-    still_with m a = moves g d s read same.clean placed (λ t. t) (λ t. t) m shows
+    still_with m a = moves g d s read (λ k. (same.clean k.0, k.1)) placed (λ t. t) (λ t. t) m shows
       where
         shows : HasPlaces g d s → AreHonest g d read → IsOpen g rows
             → view (d.seen disk) ls.items (shown g s.rows) ≡ shown_with g d s
@@ -168,7 +168,7 @@ module _ {T D : Type 0} (g : Ghosts T) (d : disk.Ghosts D) (s : Placed T D) wher
             ∙ ap (λ (file : List ℕ). view file (staged_of s) (shown g s.rows)) same.seen
 
         placed : HasPlaces g d s → AreHonest g d read → IsPlaced g d read
-        placed h k = let was = h.placed (m.was_honest k.0, same.clean k.1) in record {
+        placed h k = let was = h.placed (m.was_honest k.0, (same.clean k.1.0, k.1.1)) in record {
           received = received_still was.received;
           served = λ o. subst (IsServed d disk regions ls.items) (sym (m.shows k.0 h.rows o))
               (served_still (shown g s.rows) (was.served (m.was_open k.0 o)));
@@ -177,7 +177,7 @@ module _ {T D : Type 0} (g : Ghosts T) (d : disk.Ghosts D) (s : Placed T D) wher
 
     pub nothing_with : AddsNothing g s.rows rows → AddsNothing (beside g d) s read
     nothing_with a = record {
-      was_honest = λ k. (a.was_honest k.0, same.clean k.1);
+      was_honest = λ k. (a.was_honest k.0, (same.clean k.1.0, k.1.1));
       outcomes = λ k t leaves. let it = leaves.0 in (
         record {
           rows = it.rows;

@@ -36,7 +36,7 @@ module _ {T D : Type 0} (g : Ghosts T) (d : disk.Ghosts D) (s : Placed T D) (sta
   new = record s { disk = file; staged = staged }
 
   honest : AreHonest g d new → AreHonest g d s
-  honest k = (k.0, w.changed.clean k.1)
+  honest k = (k.0, (w.changed.clean k.1.0, k.1.1))
 
   -- what holds of each content holds of each after the exchange
   exchanged : (P : Staged → Type 0) → (P e → P e') → AllByRecursion P (staged_of s) → AllByRecursion P staged.items
@@ -203,7 +203,7 @@ module _ {T D : Type 0} (g : Ghosts T) (d : disk.Ghosts D) (s : Placed T D) (sta
     back h k = goes_back (h.placed (honest k))
 
     pub write_fails : (after : Tables → Tables → Type 0) → FailsAny (beside g d) after s new
-    write_fails after = fails g d s new w.changed.clean placed_after (λ t v. ⊥) after
+    write_fails after = fails g d s new (λ k. (w.changed.clean k.0, k.1)) placed_after (λ t v. ⊥) after
         (record { moves = rows_same; adds = λ h. record { was_honest = λ k. k; outcomes = λ k t left. inl left; safe = λ k it. it } }) still_shown back
         (λ h k o v none. absurd none)
 
@@ -212,7 +212,7 @@ module _ {T D : Type 0} (g : Ghosts T) (d : disk.Ghosts D) (s : Placed T D) (sta
       → (HasPlaces g d s → AreHonest g d new → IsReceived d file s.regions e') → (IsPlaced g d s → AreHonest g d new
       → received_pieces (d.seen file) e' ≡ received_pieces (d.seen s.disk) e ++ c ∷ [])
       → Puts (beside g d) (λ t. normal (with_chunk c t)) s new
-  piece_put c of_upload received more = puts g d s new w.changed.clean placed_after (λ t. t) (λ t. normal (with_chunk c t))
+  piece_put c of_upload received more = puts g d s new (λ k. (w.changed.clean k.0, k.1)) placed_after (λ t. t) (λ t. normal (with_chunk c t))
       (record { moves = rows_same; adds = λ h. record { was_honest = λ k. k; outcomes = λ k t left. inl left; safe = λ k it. it } }) shows
       (λ h k. goes_back (h.placed (honest k))) turns
     where

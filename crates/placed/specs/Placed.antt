@@ -1,5 +1,5 @@
 -- A database with a file of contents as a store.
-use Rattle.std.specs.Prelude.{◌≡◌, ◌+◌, ◌&&◌, ℕ, List, [], length, sum_by, Some, IsTrue}
+use Rattle.std.specs.Prelude.{◌≡◌, ◌+◌, ◌&&◌, ℕ, Bool, List, [], length, sum_by, Some, IsTrue, false}
 use Rattle.std.specs.List.{AllByRecursion}
 use Rattle.sqlite_disk.specs.declared.Disk as disk
 use Rattle.contents.specs.declared.region.Region.{Region}
@@ -27,6 +27,14 @@ file_of s = s.disk
 abbrev pub staged_of : {T D : Type 0} → Placed T D → List Staged
 staged_of s = s.staged.items
 
+-- a content was noted as lost
+abbrev pub has_noted_loss : {T D : Type 0} → Placed T D → Bool
+has_noted_loss s = s.has_lost
+
+-- so far the file has returned what was written
+abbrev pub IsFileHonest : {T D : Type 0} → disk.Ghosts D → Placed T D → Type 0
+IsFileHonest d s = IsTrue (d.is_clean s.disk) × (has_noted_loss s ≡ false)
+
 -- the database names no place in a file, nor does what a stop leaves of it
 pub record HasNoPlace {T : Type 0} (g : Ghosts T) (rows : T) : Type 0 where
   pub shown : IsHonest g rows → IsOpen g rows → places_in (shown g rows) ≡ []
@@ -35,7 +43,7 @@ pub record HasNoPlace {T : Type 0} (g : Ghosts T) (rows : T) : Type 0 where
 module _ {T D : Type 0} (g : Ghosts T) (d : disk.Ghosts D) where
   -- so far the disk of the database and that of the file have returned what was written
   abbrev pub AreHonest : Placed T D → Type 0
-  AreHonest s = IsHonest g s.rows × IsTrue (d.is_clean s.disk)
+  AreHonest s = IsHonest g s.rows × IsFileHonest d s
 
   -- the tables of the database, with the contents in the file
   abbrev pub shown_with : Placed T D → Tables

@@ -6,7 +6,7 @@ use crate::reading::read_piece;
 use names::{LockId, LockPath, Moment, Oid, RefName, RepoName, Size, UserName};
 use sqlite_disk::Disk;
 use std::alloc::Global;
-use store::{ChunkContent, Room, Store};
+use store::{ChunkContent, ReadFault, Room, Store};
 use tables::{
     Completion, Creation, LastChunk, LockRow, NewLock, NewToken, NewUpload, ObjectRow, StoreFault,
     TokenRow, UploadId, UploadRow,
@@ -136,9 +136,9 @@ impl<T: Store, D: Disk> Store for Placed<T, D> {
         self.begin(alloc, upload)
     }
 
-    fn chunk(&mut self, upload: UploadId, n: u32) -> Result<Option<ChunkContent>, StoreFault> {
+    fn chunk(&mut self, upload: UploadId, n: u32) -> Result<Option<ChunkContent>, ReadFault> {
         if n == PLACE_NUMBER {
-            return Err(StoreFault::Refused);
+            return Err(ReadFault::Store(StoreFault::Refused));
         }
         if let Some(chunk) = self.rows.chunk(upload, n)? {
             return Ok(Some(chunk));
@@ -182,5 +182,10 @@ impl<T: Store, D: Disk> Store for Placed<T, D> {
 
     fn discard_object(&mut self, repo: &RepoName, oid: &Oid) -> Result<bool, StoreFault> {
         self.discard(repo, oid)
+    }
+
+    fn note_loss(&mut self) -> bool {
+        self.has_lost = true;
+        true
     }
 }

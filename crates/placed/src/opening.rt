@@ -63,6 +63,7 @@ impl<T: Numbered + Drop, D: Disk + Drop> Placed<T, D> {
             regions,
             staged: Vec::new(alloc),
             unsynced: 0,
+            has_lost: false,
             alloc,
         })
     }

@@ -25,6 +25,8 @@ pub struct Placed<T, D> {
     pub(crate) staged: Vec<Staged>,
     /// How many bytes may have been written to the file since its last sync that succeeded.
     pub(crate) unsynced: u64,
+    /// Whether a content was noted as lost.
+    pub(crate) has_lost: bool,
     pub(crate) alloc: Global,
 }
 
@@ -46,6 +48,7 @@ impl<T: Store, D: Disk> Placed<T, D> {
             regions: Regions::new(alloc),
             staged: Vec::new(alloc),
             unsynced: 0,
+            has_lost: false,
             alloc,
         }
     }

@@ -14,9 +14,8 @@ const FILM: &str = "studio/film";
 
 const GAME: &str = "studio/game";
 
-/// Adds a lock, a token, and an upload of each kind: one that is retired, an object, and a staged one. Returns the
-/// object's id.
-pub(crate) fn fill(rt: &impl Tester, store: &mut impl Store) -> UploadId {
+/// Adds a lock, a token and a retired name.
+pub(crate) fn fill_rows(rt: &impl Tester, store: &mut impl Store) {
     let (film, ann) = (repo(rt, FILM), user(rt, "ann"));
     let lock = NewLock {
         repo: &film,
@@ -36,6 +35,11 @@ pub(crate) fn fill(rt: &impl Tester, store: &mut impl Store) -> UploadId {
     assert!(rt; unwrap(rt, store.add_token(&token)));
     stored(rt, store, FILM, b'a');
     assert!(rt; unwrap(rt, store.retire_object(&film, &oid(rt, HERO))));
+}
+
+/// The same, with an object and a staged upload. Returns the object's id.
+pub(crate) fn fill(rt: &impl Tester, store: &mut impl Store) -> UploadId {
+    fill_rows(rt, store);
     let id = stored(rt, store, GAME, b'k');
     begun(rt, store, FILM, 65_536);
     id

@@ -17,3 +17,5 @@ mod opened;
 mod rooms;
 #[cfg(test)]
 mod started;
+#[cfg(test)]
+mod stopped;

@@ -16,7 +16,7 @@ type Rows = tables::Store<MemStore>;
 
 /// What a copy has reported last.
 #[derive(Drop)]
-struct Reported {
+pub(crate) struct Reported {
     done: u64,
     all: u64,
 }
@@ -29,19 +29,19 @@ impl Progress for Reported {
 }
 
 /// Nothing was reported.
-fn nothing() -> Reported {
+pub(crate) fn nothing() -> Reported {
     Reported { done: 0, all: 0 }
 }
 
 /// A new database whose contents are rows.
-fn of_rows(rt: &impl Tester) -> Rows {
+pub(crate) fn of_rows(rt: &impl Tester) -> Rows {
     let mut store = unwrap(rt, tables::Store::open_memory(rt.alloc()));
     unwrap(rt, store.create_or_check(rt.alloc(), Layout::Rows));
     store
 }
 
 /// Stores an object of five bytes.
-fn stored_small(rt: &impl Tester, store: &mut impl Store) -> UploadId {
+pub(crate) fn stored_small(rt: &impl Tester, store: &mut impl Store) -> UploadId {
     let id = begun(rt, store, "studio/small", 5);
     let mut bytes = Vec::new(rt.alloc());
     unwrap(rt, bytes.resize(5, b's'));

@@ -3,8 +3,8 @@
 
 use crate::harness::{Tester, unwrap};
 use crate::messages::MESSAGE;
-use crate::program::{Ran, path_of, prepare, remove, run, serve_args, words};
-use crate::transcript::{POLICY, perform};
+use crate::program::{FORMS, Ran, path_of, prepare, prepare_on, remove, run, serve_args, words};
+use crate::transcript::{POLICY, perform_on_forms};
 use cli::{Destination, Listeners, Question, request_of, serve_listeners};
 use command_line::{Command, OperatorCommand, read_args};
 use control::request_bytes;
@@ -205,7 +205,7 @@ status 2
 
 #[test]
 fn a_server_runs_the_commands_of_an_operator(rt: HostRuntime) {
-    perform(&rt, &rt, "channel", POLICY, COMMANDS);
+    perform_on_forms(&rt, &rt, "channel", POLICY, COMMANDS);
 }
 
 /// The token that `authenticate` has printed.
@@ -217,17 +217,19 @@ fn token_in(printed: &[u8]) -> &str {
 
 #[test]
 fn a_token_that_a_server_issues_is_good(rt: HostRuntime) {
-    prepare(&rt, &rt, "issued_via", POLICY);
-    let asked = "authenticate --user ann studio/film upload";
-    let issued = run_via(&rt, &rt, "issued_via", asked, "");
-    assert!(rt; issued.status == 0);
-    let token = token_in(issued.output.as_slice());
-    let old = unwrap(&rt, "a".repeat(rt.alloc(), 64));
-    let message = unwrap(&rt, MESSAGE.replace(rt.alloc(), old.as_str(), token));
-    let session = "session --db @/db --policy @/policy";
-    let ran = run(&rt, &rt, "issued_via", session, message.as_str());
-    assert!(rt; ran.output.starts_with(b"HTTP/1.1 201 Created\r\n"));
-    remove(&rt, "issued_via");
+    for form in FORMS {
+        prepare_on(&rt, &rt, "issued_via", POLICY, form);
+        let asked = "authenticate --user ann studio/film upload";
+        let issued = run_via(&rt, &rt, "issued_via", asked, "");
+        assert!(&rt; issued.status == 0);
+        let token = token_in(issued.output.as_slice());
+        let old = unwrap(&rt, "a".repeat(rt.alloc(), 64));
+        let message = unwrap(&rt, MESSAGE.replace(rt.alloc(), old.as_str(), token));
+        let session = "session --db @/db --policy @/policy";
+        let ran = run(&rt, &rt, "issued_via", session, message.as_str());
+        assert!(&rt; ran.output.starts_with(b"HTTP/1.1 201 Created\r\n"));
+        remove(&rt, "issued_via");
+    }
 }
 
 /// Words that are those of no command.

@@ -1,7 +1,8 @@
 //! The command `foresee`: the reply that a user would get to a message.
 
-use crate::program::{plain, prepare, read, remove, run, status_over};
-use crate::transcript::{POLICY, perform, play};
+use crate::harness::unwrap;
+use crate::program::{FORMS, plain, prepare_on, read, remove, run, status_over};
+use crate::transcript::{POLICY, perform_on_forms, play};
 use cli::Destination;
 use std::io::{self, Read};
 use std::rt::HostRuntime;
@@ -147,11 +148,8 @@ get a studio/film locks?id=9
 
 #[test]
 fn replies_are_foreseen(rt: HostRuntime) {
-    prepare(&rt, &rt, "foreseen", POLICY);
-    for part in FORESEEN {
-        play(&rt, &rt, "foreseen", part);
-    }
-    remove(&rt, "foreseen");
+    let whole = unwrap(&rt, FORESEEN.concat(rt.alloc()));
+    perform_on_forms(&rt, &rt, "foreseen", POLICY, whole.as_str());
 }
 
 /// The policy of the film, and a second repository of bob's.
@@ -222,12 +220,12 @@ reply 200 {"lock":{"id":"1","locked_at":"2016-05-17T15:49:06Z","owner":{"name":"
 
 #[test]
 fn requests_in_another_repository_change_no_reply(rt: HostRuntime) {
-    prepare(&rt, &rt, "foreseen_between", TWO);
+    let mut whole = String::new(rt.alloc());
     for (between, part) in BETWEEN.iter().zip(FORESEEN) {
-        play(&rt, &rt, "foreseen_between", between);
-        play(&rt, &rt, "foreseen_between", part);
+        unwrap(&rt, whole.push_str(between));
+        unwrap(&rt, whole.push_str(part));
     }
-    remove(&rt, "foreseen_between");
+    perform_on_forms(&rt, &rt, "foreseen_between", TWO, whole.as_str());
 }
 
 /// Words, values and files that are refused, in their order; a repository that the policy has lost; a terminal.
@@ -281,7 +279,7 @@ get a studio/film locks
 
 #[test]
 fn words_policy_message_and_database_come_before_the_token(rt: HostRuntime) {
-    perform(&rt, &rt, "foreseen_order", POLICY, ORDER);
+    perform_on_forms(&rt, &rt, "foreseen_order", POLICY, ORDER);
 }
 
 /// A server's policy and moment; without `--now` it is its clock's, at which the token has expired.
@@ -304,7 +302,7 @@ via locks --repo studio/film
 
 #[test]
 fn a_server_foresees_replies(rt: HostRuntime) {
-    perform(&rt, &rt, "foreseen_via", POLICY, VIA);
+    perform_on_forms(&rt, &rt, "foreseen_via", POLICY, VIA);
 }
 
 /// An input of one byte more than 16 MiB, which a request has no room for with its words.
@@ -350,16 +348,19 @@ const UPLOAD: &str =
 #[test]
 fn the_files_are_the_same_afterwards(rt: HostRuntime) {
     let folder = "foreseen_files";
-    prepare(&rt, &rt, folder, POLICY);
-    play(&rt, &rt, folder, STORED);
-    let (db, log) = (
-        read(&rt, &rt, folder, "db"),
-        read(&rt, &rt, folder, "db-wal"),
-    );
-    let line = "foresee --db @/db --policy @/policy --user ann --repo studio/film --now 1463500146";
-    let ran = run(&rt, &rt, folder, line, UPLOAD);
-    assert!(rt; ran.is(0, "200 ok\n", ""));
-    assert!(rt; read(&rt, &rt, folder, "db").as_slice() == db.as_slice());
-    assert!(rt; read(&rt, &rt, folder, "db-wal").as_slice() == log.as_slice());
-    remove(&rt, folder);
+    for form in FORMS {
+        prepare_on(&rt, &rt, folder, POLICY, form);
+        play(&rt, &rt, folder, STORED);
+        let (db, log) = (
+            read(&rt, &rt, folder, "db"),
+            read(&rt, &rt, folder, "db-wal"),
+        );
+        let line =
+            "foresee --db @/db --policy @/policy --user ann --repo studio/film --now 1463500146";
+        let ran = run(&rt, &rt, folder, line, UPLOAD);
+        assert!(&rt; ran.is(0, "200 ok\n", ""));
+        assert!(&rt; read(&rt, &rt, folder, "db").as_slice() == db.as_slice());
+        assert!(&rt; read(&rt, &rt, folder, "db-wal").as_slice() == log.as_slice());
+        remove(&rt, folder);
+    }
 }

@@ -1,8 +1,8 @@
 //! Tokens: issued, used, expired and removed.
 
 use crate::harness::unwrap;
-use crate::program::{prepare, read, remove, run};
-use crate::transcript::{POLICY, perform, play};
+use crate::program::{FORMS, prepare, prepare_on, read, remove, run};
+use crate::transcript::{POLICY, perform_on_forms, play};
 
 /// What `authenticate` prints, and what it refuses.
 const ISSUED: &str = r#"
@@ -51,7 +51,7 @@ reply 403 {"message":"P0: no policy row allows lock"}
 
 #[test]
 fn a_token_is_issued_once(rt: HostRuntime) {
-    perform(&rt, &rt, "issued", POLICY, ISSUED);
+    perform_on_forms(&rt, &rt, "issued", POLICY, ISSUED);
 }
 
 /// Tokens that are not issued; none of them is stored.
@@ -60,23 +60,23 @@ const WITHHELD: &str = r#"
 $ authenticate --db @/db --policy @/policy --user ann --now 1463500000 --random @/a //studio/film.git upload
 error custody: R1: no such repository
 status 1
-missing db
+in-rows missing db
 $ authenticate --db @/db --policy @/policy --user ann --now 1463500000 --random @/a studio/film.git.git upload
 error custody: R1: no such repository
 status 1
-missing db
+in-rows missing db
 $ authenticate --db @/db --policy @/policy --user ann --now 1463500000 --random @/a studio/other upload
 error custody: R1: no such repository
 status 1
-missing db
+in-rows missing db
 $ authenticate --db @/db --policy @/policy --user ann --now 1463500000 --random @/a '' upload
 error custody: R1: no such repository
 status 1
-missing db
+in-rows missing db
 $ authenticate --db @/db --policy @/policy --user ann --now 1463500000 --random @/a .git upload
 error custody: R1: no such repository
 status 1
-missing db
+in-rows missing db
 # an operation that is none
 $ authenticate --db @/db --policy @/policy --user ann --now 1463500000 --random @/a /studio/film.git push
 error error: invalid value 'push' for '<OPERATION>'
@@ -84,31 +84,31 @@ error   [possible values: download, upload]
 error
 error For more information, try '--help'.
 status 2
-missing db
+in-rows missing db
 # a user that is none
 $ authenticate --db @/db --policy @/policy --user Ann --now 1463500000 --random @/a /studio/film.git upload
 error custody: bad value for --user
 status 2
-missing db
+in-rows missing db
 # random bytes that are too few, or not there
 file few 31 170
 $ authenticate --db @/db --policy @/policy --user ann --now 1463500000 --random @/few /studio/film.git upload
 error custody: random bytes not read
 status 1
-missing db
+in-rows missing db
 file none 0 170
 $ authenticate --db @/db --policy @/policy --user ann --now 1463500000 --random @/none /studio/film.git upload
 error custody: random bytes not read
 status 1
-missing db
+in-rows missing db
 $ authenticate --db @/db --policy @/policy --user ann --now 1463500000 --random @ /studio/film.git upload
 error custody: random bytes not read
 status 1
-missing db
+in-rows missing db
 $ authenticate --db @/db --policy @/policy --user ann --now 1463500000 --random @/nowhere /studio/film.git upload
 error custody: random bytes not read
 status 1
-missing db
+in-rows missing db
 # an expiry past the last moment
 $ authenticate --db @/db --policy @/policy --user ann --now 253402300799 --random @/a /studio/film.git upload
 error custody: K2: expiry out of range
@@ -128,7 +128,7 @@ reply 201 {"lock":{"id":"1","locked_at":"2016-05-17T15:49:06Z","owner":{"name":"
 
 #[test]
 fn a_token_that_is_refused_is_not_kept(rt: HostRuntime) {
-    perform(&rt, &rt, "withheld", POLICY, WITHHELD);
+    perform_on_forms(&rt, &rt, "withheld", POLICY, WITHHELD);
 }
 
 /// The last second at which a token is valid and the one after, and the tokens that are removed.
@@ -177,7 +177,7 @@ $ prune --db @/db --now 253402300799
 
 #[test]
 fn a_token_ends_at_its_expiry(rt: HostRuntime) {
-    perform(&rt, &rt, "expired", POLICY, EXPIRED);
+    perform_on_forms(&rt, &rt, "expired", POLICY, EXPIRED);
 }
 
 /// Commands at the moment of the machine's clock: one of them shows whether the token is valid, by a
@@ -202,7 +202,7 @@ reply 401 {"message":"A2: the token is unknown"}
 
 #[test]
 fn the_clock_gives_the_moment(rt: HostRuntime) {
-    perform(&rt, &rt, "clock", POLICY, CLOCK);
+    perform_on_forms(&rt, &rt, "clock", POLICY, CLOCK);
 }
 
 #[test]
@@ -238,13 +238,15 @@ const DIGEST: [u8; 32] = [
 
 #[test]
 fn the_files_do_not_contain_a_token(rt: HostRuntime) {
-    prepare(&rt, &rt, "secret", POLICY);
-    play(&rt, &rt, "secret", USED);
-    let mut bytes = read(&rt, &rt, "secret", "db");
-    let log = read(&rt, &rt, "secret", "db-wal");
-    unwrap(&rt, bytes.extend_from_slice(log.as_slice()));
-    assert!(rt; !holds(bytes.as_slice(), &[b'a'; 64]));
-    assert!(rt; !holds(bytes.as_slice(), &[0xaa; 32]));
-    assert!(rt; holds(bytes.as_slice(), &DIGEST));
-    remove(&rt, "secret");
+    for form in FORMS {
+        prepare_on(&rt, &rt, "secret", POLICY, form);
+        play(&rt, &rt, "secret", USED);
+        let mut bytes = read(&rt, &rt, "secret", "db");
+        let log = read(&rt, &rt, "secret", "db-wal");
+        unwrap(&rt, bytes.extend_from_slice(log.as_slice()));
+        assert!(&rt; !holds(bytes.as_slice(), &[b'a'; 64]));
+        assert!(&rt; !holds(bytes.as_slice(), &[0xaa; 32]));
+        assert!(&rt; holds(bytes.as_slice(), &DIGEST));
+        remove(&rt, "secret");
+    }
 }

@@ -19,6 +19,8 @@ mod harness;
 #[cfg(test)]
 mod issued;
 #[cfg(test)]
+mod large_objects;
+#[cfg(test)]
 mod lock_requests;
 #[cfg(test)]
 mod machines;

@@ -1,6 +1,6 @@
 //! Lists of locks, the locks that a push is checked against, and releases.
 
-use crate::transcript::{POLICY, perform};
+use crate::transcript::{POLICY, perform_on_forms};
 
 /// Two locks on the default branch and one on another, in pages and by filters.
 const LISTED: &str = r#"
@@ -76,7 +76,7 @@ reply 422 {"message":"J1: the body has the wrong shape"}
 
 #[test]
 fn locks_are_listed_in_pages(rt: HostRuntime) {
-    perform(&rt, &rt, "listed", POLICY, LISTED);
+    perform_on_forms(&rt, &rt, "listed", POLICY, LISTED);
 }
 
 /// Pages with hidden locks, past released ones, and at the limits of their parameters.
@@ -134,7 +134,7 @@ reply 200 {"ours":[{"id":"1","locked_at":"2016-05-17T15:49:06Z","owner":{"name":
 
 #[test]
 fn pages_skip_hidden_and_released_locks(rt: HostRuntime) {
-    perform(&rt, &rt, "pages", POLICY, PAGES);
+    perform_on_forms(&rt, &rt, "pages", POLICY, PAGES);
 }
 
 /// Releases, by the owner, by others, and by a user who may force.
@@ -194,7 +194,7 @@ reply 200 {"locks":[{"id":"2","locked_at":"2016-05-17T15:49:06Z","owner":{"name"
 
 #[test]
 fn locks_are_released(rt: HostRuntime) {
-    perform(&rt, &rt, "released", POLICY, RELEASED);
+    perform_on_forms(&rt, &rt, "released", POLICY, RELEASED);
 }
 
 /// A caller's rights: to lists, to verify, and to know of a lock.
@@ -229,5 +229,5 @@ reply 403 {"message":"P0: no policy row allows lock"}
 
 #[test]
 fn rights_decide_what_a_caller_learns_of_locks(rt: HostRuntime) {
-    perform(&rt, &rt, "denied", POLICY, DENIED);
+    perform_on_forms(&rt, &rt, "denied", POLICY, DENIED);
 }

@@ -1,6 +1,7 @@
 //! A server on a machine that a test makes: who calls, and which policies the file has, one after the other.
 
 use crate::harness::{Tester, unwrap};
+use crate::program::{FORMS, Form};
 use crate::queues::read_on;
 use crate::transcript::POLICY;
 use control::request_bytes;
@@ -9,17 +10,20 @@ use machine::{Conversation, Machine, Talked};
 use metrics::Gauges;
 use names::{Moment, Oid, RepoName, Size};
 use outbox::OperatorStream;
+use placed::Placed;
 use policy::Policy;
 use server::{Finish, Server};
 use service::{End, Routes};
 use sockets::{Caller, Client, Ended, Front, Limits, Queue, listen};
+use sqlite_disk::Memory;
 use std::io::{Read, Write};
 use std::net::{Shutdown, TcpListener};
 use std::os::unix::net::UnixStream;
 use std::rt::HostRuntime;
 use std::str;
 use std::time::{Duration, Instant};
-use tables::{Alter, LastChunk, Layout, NewUpload, Store};
+use store::Store;
+use tables::{LastChunk, Layout, NewUpload};
 
 /// Where nobody calls.
 const ANY: &str = "127.0.0.1:0";
@@ -111,7 +115,7 @@ impl Machine for Script<'_> {
         None
     }
 
-    fn converse<S: store::Store, T: Conversation>(
+    fn converse<S: Store, T: Conversation>(
         &mut self,
         _: &mut Client,
         _: &mut S,
@@ -168,7 +172,7 @@ fn operators_of(rt: &impl Tester, host: &HostRuntime, calls: &[(&str, &str)]) ->
 }
 
 /// Stores objects without bytes under these names, which are not theirs.
-fn store_damaged<S: Alter>(rt: &impl Tester, store: &mut Store<S>, names: &[&[u8; 64]]) {
+fn store_damaged<S: Store>(rt: &impl Tester, store: &mut S, names: &[&[u8; 64]]) {
     let name = unwrap(rt, String::from_str(rt.alloc(), "studio/film"));
     let Some((repo, size)) = RepoName::read(name).zip(Size::read(0)) else {
         panic!(rt; "out of range");
@@ -191,17 +195,16 @@ fn store_damaged<S: Alter>(rt: &impl Tester, store: &mut Store<S>, names: &[&[u8
     }
 }
 
-/// Serves the operators of a machine over a database with these objects, which are damaged. Asserts that nothing is
+/// Serves the operators of a machine over a store with these objects, which are damaged. Asserts that nothing is
 /// reported.
-fn serve(
+fn serve_over<S: Store>(
     rt: &impl Tester,
     host: &HostRuntime,
     machine: &mut Script<'_>,
+    store: &mut S,
     damaged: &[&[u8; 64]],
 ) -> Result<Finish, Fault> {
-    let mut store = unwrap(rt, Store::open_memory(rt.alloc()));
-    unwrap(rt, store.create_or_check(rt.alloc(), Layout::Rows));
-    store_damaged(rt, &mut store, damaged);
+    store_damaged(rt, store, damaged);
     let routes = unwrap(rt, Routes::new(rt.alloc()));
     let server = Server {
         alloc: rt.alloc(),
@@ -210,9 +213,31 @@ fn serve(
     };
     let policy = unwrap(rt, Policy::read(rt.alloc(), POLICY));
     let mut errors = Vec::new(rt.alloc());
-    let served = server.run(&mut store, machine, policy, 1, &mut errors);
+    let served = server.run(store, machine, policy, 1, &mut errors);
     assert!(rt; errors.is_empty());
     served
+}
+
+/// The same over a new database of this form.
+fn serve(
+    rt: &impl Tester,
+    host: &HostRuntime,
+    machine: &mut Script<'_>,
+    form: Form,
+    damaged: &[&[u8; 64]],
+) -> Result<Finish, Fault> {
+    let mut rows = unwrap(rt, tables::Store::open_memory(rt.alloc()));
+    match form {
+        Form::Rows => {
+            unwrap(rt, rows.create_or_check(rt.alloc(), Layout::Rows));
+            serve_over(rt, host, machine, &mut rows, damaged)
+        }
+        Form::File => {
+            unwrap(rt, rows.create_or_check(rt.alloc(), Layout::Places));
+            let mut store = Placed::new(rt.alloc(), rows, Memory::new(rt.alloc()));
+            serve_over(rt, host, machine, &mut store, damaged)
+        }
+    }
 }
 
 /// What an operator has got. One who was not served sees that the server has gone.
@@ -272,7 +297,7 @@ fn the_next_command_has_the_policy_that_was_read(rt: HostRuntime) {
     unwrap(&rt, policies.push(Ok(read)));
     let listener = unwrap(&rt, listen(&rt, ANY));
     let mut script = script_of(&rt, &rt, &listener, callers, policies);
-    assert!(rt; serve(&rt, &rt, &mut script, &[]).is_err());
+    assert!(rt; serve(&rt, &rt, &mut script, Form::Rows, &[]).is_err());
     let denied = b"\x03\x03\0\0\0\x17denied by row 0: a.txt\n\x01";
     expect_replies(
         &rt,
@@ -287,22 +312,29 @@ fn the_next_command_has_the_policy_that_was_read(rt: HostRuntime) {
     );
 }
 
-#[test]
-fn nothing_is_done_after_a_stop(rt: HostRuntime) {
+/// Asserts that a server over a database of this form does nothing after a stop.
+fn expect_stop(rt: &impl Tester, host: &HostRuntime, form: Form) {
     let calls = [("sweep", ""), ("stop", ""), ("sweep", "")];
-    let Operators { callers, readers } = operators_of(&rt, &rt, &calls);
-    let listener = unwrap(&rt, listen(&rt, ANY));
-    let mut script = script_of(&rt, &rt, &listener, callers, Vec::new(rt.alloc()));
-    match serve(&rt, &rt, &mut script, &[]) {
+    let Operators { callers, readers } = operators_of(rt, host, &calls);
+    let listener = unwrap(rt, listen(host, ANY));
+    let mut script = script_of(rt, host, &listener, callers, Vec::new(rt.alloc()));
+    match serve(rt, host, &mut script, form, &[]) {
         Ok(finish) => assert!(rt; finish.connections == 0 && finish.stopped_by.is_some()),
         Err(_) => panic!(rt; "the server was not stopped"),
     }
     drop(script);
     expect_replies(
-        &rt,
+        rt,
         readers,
         &[b"\x03\x03\0\0\0\x10swept 0 uploads\n\0", b"\x03\0", b""],
     );
+}
+
+#[test]
+fn nothing_is_done_after_a_stop(rt: HostRuntime) {
+    for form in FORMS {
+        expect_stop(&rt, &rt, form);
+    }
 }
 
 /// The names of two objects.
@@ -320,14 +352,21 @@ const CHECKED: &[&[u8]] = &[
     b"\x03\x03\0\0\0\x10swept 0 uploads\n\0",
 ];
 
+/// Asserts that a check over a database of this form gives way.
+fn expect_check(rt: &impl Tester, host: &HostRuntime, form: Form) {
+    let calls = [("check", ""), ("repair", ""), ("sweep", "")];
+    let Operators { callers, readers } = operators_of(rt, host, &calls);
+    let listener = unwrap(rt, listen(host, ANY));
+    let mut script = script_of(rt, host, &listener, callers, Vec::new(rt.alloc()));
+    assert!(rt; serve(rt, host, &mut script, form, &NAMES).is_err());
+    expect_replies(rt, readers, CHECKED);
+}
+
 #[test]
 fn a_check_gives_way(rt: HostRuntime) {
-    let calls = [("check", ""), ("repair", ""), ("sweep", "")];
-    let Operators { callers, readers } = operators_of(&rt, &rt, &calls);
-    let listener = unwrap(&rt, listen(&rt, ANY));
-    let mut script = script_of(&rt, &rt, &listener, callers, Vec::new(rt.alloc()));
-    assert!(rt; serve(&rt, &rt, &mut script, &NAMES).is_err());
-    expect_replies(&rt, readers, CHECKED);
+    for form in FORMS {
+        expect_check(&rt, &rt, form);
+    }
 }
 
 /// A path, and the line of its verdict.
@@ -372,7 +411,7 @@ fn what_a_socket_does_not_take_is_sent_before_the_end(rt: HostRuntime) {
     } = operators_of(&rt, &rt, &[(ZOE, paths.as_str())]);
     let listener = unwrap(&rt, listen(&rt, ANY));
     let mut script = script_of(&rt, &rt, &listener, callers, Vec::new(rt.alloc()));
-    assert!(rt; serve(&rt, &rt, &mut script, &[]).is_err());
+    assert!(rt; serve(&rt, &rt, &mut script, Form::Rows, &[]).is_err());
     let Some(reader) = readers.first_mut() else {
         panic!(&rt; "there is no operator");
     };
@@ -396,21 +435,42 @@ const STATUS: &[&str] = &[
     "custody_operators_total{result=\"refused\"} 0",
 ];
 
-#[test]
-fn a_status_has_what_the_machine_knows(rt: HostRuntime) {
+/// Lines of a status with a file of contents, and of none without.
+const CONTENTS: &[&str] = &[
+    "custody_database_bytes{file=\"contents\"} 0",
+    "custody_contents_bytes{state=\"kept\"} 0",
+    "custody_contents_bytes{state=\"free\"} 0",
+];
+
+/// The status of a server over a database of this form.
+fn status_over(rt: &impl Tester, host: &HostRuntime, form: Form) -> String {
     let Operators {
         callers,
         mut readers,
-    } = operators_of(&rt, &rt, &[("sweep", ""), ("status", "")]);
-    let listener = unwrap(&rt, listen(&rt, ANY));
-    let mut script = script_of(&rt, &rt, &listener, callers, Vec::new(rt.alloc()));
-    assert!(rt; serve(&rt, &rt, &mut script, &[]).is_err());
+    } = operators_of(rt, host, &[("sweep", ""), ("status", "")]);
+    let listener = unwrap(rt, listen(host, ANY));
+    let mut script = script_of(rt, host, &listener, callers, Vec::new(rt.alloc()));
+    assert!(rt; serve(rt, host, &mut script, form, &[]).is_err());
     let Some(reader) = readers.get_mut(1) else {
-        panic!(&rt; "there is no second operator");
+        panic!(rt; "there is no second operator");
     };
-    let reply = reply_to(&rt, reader);
+    let reply = reply_to(rt, reader);
     let text = str::from_utf8(reply.as_slice().get(6..).unwrap_or(&[])).unwrap_or("");
-    for line in STATUS {
-        assert!(rt; text.lines().any(|found| found == *line), "{line}");
+    unwrap(rt, text.to_owned(rt.alloc()))
+}
+
+/// Asserts that the status has each of the lines, or none.
+fn expect_lines(rt: &impl Tester, status: &str, lines: &[&str], has: bool) {
+    for line in lines {
+        assert!(rt; status.lines().any(|found| found == *line) == has, "{line}");
+    }
+}
+
+#[test]
+fn a_status_has_what_the_machine_knows(rt: HostRuntime) {
+    for form in FORMS {
+        let status = status_over(&rt, &rt, form);
+        expect_lines(&rt, status.as_str(), STATUS, true);
+        expect_lines(&rt, status.as_str(), CONTENTS, matches!(form, Form::File));
     }
 }

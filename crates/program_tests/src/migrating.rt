@@ -152,7 +152,7 @@ sql INSERT INTO chunks VALUES (1, 0, x'616263')
 sql INSERT INTO uploads VALUES (5, 'studio/film', '2cf24dba5fb0a30e26e83b2ac5b9e29e1b161e5c1fa7425e73043362938b9824', 5, 0)
 sql INSERT INTO locks VALUES ('studio/film', 2, 'refs/heads/main', 'art/hero.psd', 'ann', 1463500146)
 sql INSERT INTO tokens VALUES (x'ffe054fe7ae0cb6dc65c3af9b61d5209f439851db43d0ba5997337df154668eb', 'ann', 'studio/film', 2, 1463503600)
-chmod 640 db
+chmod db 640
 # it gets version 2 first, and then a file of contents
 $ migrate --contents --db @/db
 | migrated from version 1, 1 objects

@@ -1,6 +1,6 @@
 //! Policy files: their verdicts, and their faults.
 
-use crate::transcript::{POLICY, perform};
+use crate::transcript::{POLICY, perform, perform_on_forms};
 
 /// "A vendor who reads" of docs/POLICY.md.
 const VENDOR: &str = r#"
@@ -278,7 +278,7 @@ const DECISIONS: &[(&str, &str, &str)] = &[
 #[test]
 fn a_policy_decides(rt: HostRuntime) {
     for (folder, policy, transcript) in DECISIONS {
-        perform(&rt, &rt, folder, policy, transcript);
+        perform_on_forms(&rt, &rt, folder, policy, transcript);
     }
 }
 

@@ -26,6 +26,13 @@ impl Ran {
             && self.errors.as_slice() == errors.as_bytes()
     }
 
+    /// Whether the other run ended and printed the same.
+    pub fn is_as(&self, other: &Ran) -> bool {
+        self.status == other.status
+            && self.output.as_slice() == other.output.as_slice()
+            && self.errors.as_slice() == other.errors.as_slice()
+    }
+
     /// All of it, for a person to read.
     pub fn text(&self, rt: &impl Tester) -> String {
         let output = str::from_utf8(self.output.as_slice()).unwrap_or("bytes");
@@ -198,6 +205,42 @@ pub(crate) fn prepare(rt: &impl Tester, host: &HostRuntime, folder: &str, policy
     write(rt, host, folder, "policy", policy.as_bytes());
     for &(name, byte) in &[("a", 0xaa), ("b", 0xbb), ("c", 0xcc), ("d", 0xdd)] {
         write(rt, host, folder, name, &[byte; 32]);
+    }
+}
+
+/// Where a database has the contents of objects.
+#[derive(Clone, Copy, Debug)]
+pub(crate) enum Form {
+    /// In rows.
+    Rows,
+    /// The larger ones in a file beside it.
+    File,
+}
+
+/// The forms of a database.
+pub(crate) const FORMS: [Form; 2] = [Form::Rows, Form::File];
+
+/// The form of the database of a folder; that of rows if there is none.
+pub(crate) fn form_of(rt: &impl Tester, host: &HostRuntime, folder: &str) -> Form {
+    let contents = path_of(rt, folder, "db-contents");
+    match fs::metadata(host, contents.as_str()) {
+        Ok(_) => Form::File,
+        Err(_) => Form::Rows,
+    }
+}
+
+/// Makes a folder for a test over a database of this form. The first command makes one whose contents are rows.
+pub(crate) fn prepare_on(
+    rt: &impl Tester,
+    host: &HostRuntime,
+    folder: &str,
+    policy: &str,
+    form: Form,
+) {
+    prepare(rt, host, folder, policy);
+    if let Form::File = form {
+        let made = run(rt, host, folder, "migrate --contents --db @/db", "");
+        assert!(rt; made.is(0, "migrated from version 2, 0 objects\n", ""));
     }
 }
 

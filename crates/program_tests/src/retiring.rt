@@ -1,6 +1,6 @@
 //! The command `retire`: an object that is removed for good, and what its users then get.
 
-use crate::transcript::{POLICY, perform};
+use crate::transcript::{POLICY, perform, perform_on_forms};
 
 /// An object that fills the quota, removed, and the replies to all that ask for it.
 const RETIRED: &str = r#"
@@ -119,7 +119,7 @@ $ objects --db @/db --repo studio/film
 
 #[test]
 fn an_object_is_removed_for_good(rt: HostRuntime) {
-    perform(&rt, &rt, "retired", POLICY, RETIRED);
+    perform_on_forms(&rt, &rt, "retired", POLICY, RETIRED);
 }
 
 /// What a removal leaves: other objects, those of other repositories, and their staged uploads.
@@ -162,7 +162,8 @@ $ objects --db @/db --repo studio/film
 $ retire --db @/db --repo studio/film ba7816bf8f01cfea414140de5dae2223b00361a396177a9cb410ff61f20015ad
 | retired ba7816bf8f01cfea414140de5dae2223b00361a396177a9cb410ff61f20015ad
 $ sweep --db @/db
-| swept 1 uploads
+in-rows | swept 1 uploads
+in-file | swept 0 uploads
 $ objects --db @/db --repo studio/film
 | e3b0c44298fc1c149afbf4c8996fb92427ae41e4649b934ca495991b7852b855 0
 $ objects --db @/db --repo studio/game
@@ -212,7 +213,7 @@ $ objects --db @/db --repo studio/film
 
 #[test]
 fn nothing_else_is_removed(rt: HostRuntime) {
-    perform(&rt, &rt, "apart", POLICY, APART);
+    perform_on_forms(&rt, &rt, "apart", POLICY, APART);
 }
 
 /// Names that are refused.

@@ -3,7 +3,9 @@
 
 use crate::harness::{Tester, unwrap};
 use crate::messages::{BAD_HEAD, CREATED, EXPIRED, HELD, MESSAGE, MESSAGE_BUT_ONE, STORE_REFUSED};
-use crate::program::{Ran, path_of, prepare, read, remove, run, serve_args};
+use crate::program::{
+    FORMS, Form, Ran, path_of, prepare, prepare_on, read, remove, run, serve_args,
+};
 use crate::transcript::{POLICY, perform, play};
 use cli::{Listeners, serve_listeners};
 use command_line::ServeArgs;
@@ -253,7 +255,7 @@ fn serve_clients(
     serve_between(rt, clock, folder, idle, clients, TOKEN, "")
 }
 
-/// The same between two transcripts.
+/// The same between two transcripts, over a database of each form. What the program printed has to be the same.
 fn serve_between(
     rt: &impl Tester,
     clock: &TestClock<'_>,
@@ -263,7 +265,26 @@ fn serve_between(
     before: &str,
     after: &str,
 ) -> Ran {
-    prepare(rt, clock.host, folder, POLICY);
+    let first = serve_on(rt, clock, folder, Form::Rows, idle, clients, before, after);
+    clock.shown.set(0);
+    clock.looks.set(0);
+    let second = serve_on(rt, clock, folder, Form::File, idle, clients, before, after);
+    assert!(rt; second.is_as(&first), "{folder}");
+    first
+}
+
+/// Serves the clients over a database of this form.
+fn serve_on(
+    rt: &impl Tester,
+    clock: &TestClock<'_>,
+    folder: &str,
+    form: Form,
+    idle: u64,
+    clients: &[Client],
+    before: &str,
+    after: &str,
+) -> Ran {
+    prepare_on(rt, clock.host, folder, POLICY, form);
     play(rt, clock.host, folder, before);
     let listener = unwrap(rt, TcpListener::bind(clock.host, "127.0.0.1:0"));
     let mut streams = Vec::new(rt.alloc());

@@ -1,6 +1,6 @@
 //! Sessions: the client's bytes, and the replies.
 
-use crate::transcript::{POLICY, perform};
+use crate::transcript::{POLICY, perform_on_forms};
 
 /// The worked example of docs/PROTOCOL.md, byte for byte, and what comes after it.
 const LOCKS: &str = r#"
@@ -57,7 +57,7 @@ $ session --db @/db --policy @/policy --now 1463500146
 
 #[test]
 fn a_path_is_locked_once(rt: HostRuntime) {
-    perform(&rt, &rt, "locks", POLICY, LOCKS);
+    perform_on_forms(&rt, &rt, "locks", POLICY, LOCKS);
 }
 
 /// A repository whose number of locks made is one less than the last id: that id is given once, and
@@ -81,7 +81,7 @@ reply 409 {"lock":{"id":"4294967295","locked_at":"2016-05-17T15:49:06Z","owner":
 
 #[test]
 fn the_last_id_is_given_once(rt: HostRuntime) {
-    perform(&rt, &rt, "ids", POLICY, LAST_ID);
+    perform_on_forms(&rt, &rt, "ids", POLICY, LAST_ID);
 }
 
 /// Requests that are refused, and then the first one that is granted.
@@ -162,5 +162,5 @@ reply 201 {"lock":{"id":"1","locked_at":"2016-05-17T15:49:06Z","owner":{"name":"
 
 #[test]
 fn what_is_refused_changes_nothing(rt: HostRuntime) {
-    perform(&rt, &rt, "refused", POLICY, REFUSED);
+    perform_on_forms(&rt, &rt, "refused", POLICY, REFUSED);
 }

@@ -1,7 +1,7 @@
 //! Streams that fail, and arguments that could not be read.
 
 use crate::harness::Tester;
-use crate::program::{plain, prepare, remove, status_over};
+use crate::program::{FORMS, plain, prepare_on, remove, status_over};
 use crate::transcript::{POLICY, play};
 use cli::Destination;
 use std::io::{self, ErrorKind, Read};
@@ -62,24 +62,26 @@ const LOCKED: &str = "HTTP/1.1 201 Created\r\n\
 
 #[test]
 fn a_failed_read_is_reported_after_the_replies(rt: HostRuntime) {
-    prepare(&rt, &rt, "read", POLICY);
-    play(&rt, &rt, "read", "token a ann studio/film");
-    let mut input = Broken(LOCK_HERO.as_bytes());
-    let mut output = Vec::new(rt.alloc());
-    let mut errors = Vec::new(rt.alloc());
-    let status = status_over(
-        &rt,
-        &rt,
-        "read",
-        SESSION,
-        &mut input,
-        plain(Destination::Other),
-        &mut output,
-        &mut errors,
-    );
-    assert!(rt; status == 1 && output.as_slice() == LOCKED.as_bytes());
-    assert!(rt; errors.as_slice() == "custody: session ReadFailed\n".as_bytes());
-    remove(&rt, "read");
+    for form in FORMS {
+        prepare_on(&rt, &rt, "read", POLICY, form);
+        play(&rt, &rt, "read", "token a ann studio/film");
+        let mut input = Broken(LOCK_HERO.as_bytes());
+        let mut output = Vec::new(rt.alloc());
+        let mut errors = Vec::new(rt.alloc());
+        let status = status_over(
+            &rt,
+            &rt,
+            "read",
+            SESSION,
+            &mut input,
+            plain(Destination::Other),
+            &mut output,
+            &mut errors,
+        );
+        assert!(&rt; status == 1 && output.as_slice() == LOCKED.as_bytes());
+        assert!(&rt; errors.as_slice() == "custody: session ReadFailed\n".as_bytes());
+        remove(&rt, "read");
+    }
 }
 
 /// Asserts the error stream of a command whose output takes at most 10 bytes.
@@ -160,15 +162,22 @@ lock a studio/film {"path":"art/hero.psd"}
 reply 409 {"lock":{"id":"1","locked_at":"2016-05-17T15:49:06Z","owner":{"name":"ann"},"path":"art/hero.psd"},"message":"L1: the path is already locked"}
 "#;
 
+/// Asserts the error stream of each command whose output is cut.
+fn expect_all_cut(rt: &impl Tester, host: &HostRuntime) {
+    for (line, input, want) in CUT {
+        expect_cut(rt, host, line, input, want);
+    }
+}
+
 #[test]
 fn a_failed_write_is_reported(rt: HostRuntime) {
-    prepare(&rt, &rt, "write", POLICY);
-    play(&rt, &rt, "write", STORED);
-    for (line, input, want) in CUT {
-        expect_cut(&rt, &rt, line, input, want);
+    for form in FORMS {
+        prepare_on(&rt, &rt, "write", POLICY, form);
+        play(&rt, &rt, "write", STORED);
+        expect_all_cut(&rt, &rt);
+        play(&rt, &rt, "write", LEFT);
+        remove(&rt, "write");
     }
-    play(&rt, &rt, "write", LEFT);
-    remove(&rt, "write");
 }
 
 /// Why the arguments could not be read; the exit status and the line on the error stream.

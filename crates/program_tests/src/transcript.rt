@@ -19,7 +19,9 @@
 //! | `lock` | input: a request for a lock: the token's letter, the repository, the body |
 //! | `get` | input: a GET: the token's letter, the repository, the rest of the target |
 //! | `post` | input: a POST: the token's letter, the repository, the rest of the target, the body |
+//! | `put` | input: an upload: the token's letter, the repository, the object's name, how many times which letter |
 //! | `reply` | output: a reply of JSON: the status, the body |
+//! | `bytes` | output: a content: how many times which letter |
 //! | `file` | a file is written before the next command: its name, how many bytes, which byte |
 //! | `chmod` | a file is given a mode before the next command: its name, three octal digits |
 //! | `mode` | the mode of a file after the command: its name, three octal digits |
@@ -27,10 +29,14 @@
 //! | `replace` | a change of [`POLICY`] from this command on: `OLD => NEW`, in which `\n` is a line end |
 //! | `append` | text added to the policy, after the number of copies: `\n` is a line end, `@` the number of a copy |
 //! | `pad` | the size of the policy in bytes, which a comment fills up |
+//! | `in-rows`, `in-file` | a line, with its word, that counts only if contents are rows, or in a file |
 
 use crate::channel::run_via;
 use crate::harness::{Tester, unwrap};
-use crate::program::{Ran, path_of, prepare, remove, run_sql, run_to, text_of, write};
+use crate::program::{
+    FORMS, Form, Ran, form_of, path_of, prepare, prepare_on, remove, run_sql, run_to, text_of,
+    write,
+};
 use cli::Destination;
 use std::alloc::Global;
 use std::fs::{self, Permissions};
@@ -121,11 +127,33 @@ fn post(rt: &impl Tester, letter: &str, repo: &str, rest: &str, body: &str) -> S
     )
 }
 
+/// The upload of the token's letter, of a content that the text describes.
+fn upload(rt: &impl Tester, letter: &str, repo: &str, text: &str) -> String {
+    let token = unwrap(rt, letter.repeat(rt.alloc(), 64));
+    let (name, content) = text.split_once(' ').unwrap_or((text, ""));
+    let content = repeated(rt, content);
+    let length = content.len();
+    unwrap(
+        rt,
+        format!(in rt.alloc();
+            "PUT /{repo}.git/info/lfs/content/{name} HTTP/1.1\r\nAuthorization: Bearer {token}\r\nContent-Length: {length}\r\n\r\n{content}"
+        ),
+    )
+}
+
+/// A letter, repeated as often as the number before it says.
+fn repeated(rt: &impl Tester, text: &str) -> String {
+    let (count, letter) = text.split_once(' ').unwrap_or((text, ""));
+    let count = unwrap(rt, count.parse::<usize>());
+    unwrap(rt, letter.repeat(rt.alloc(), count))
+}
+
 /// The request that the text describes after its word.
 fn request(rt: &impl Tester, mark: &str, text: &str) -> String {
     let (letter, repo, rest) = three(text);
     match mark {
         "lock" => post(rt, letter, repo, "locks", rest),
+        "put" => upload(rt, letter, repo, rest),
         "post" => {
             let (rest, body) = rest.split_once(' ').unwrap_or((rest, ""));
             post(rt, letter, repo, rest, body)
@@ -261,10 +289,11 @@ impl Step {
             "|" => push(rt, &mut self.output, text, "\n"),
             "error" => push(rt, &mut self.errors, text, "\n"),
             "missing" => push(rt, &mut self.missing, text, ""),
-            "lock" | "get" | "post" => {
+            "lock" | "get" | "post" | "put" => {
                 push(rt, &mut self.input, request(rt, mark, text).as_str(), "");
             }
             "reply" => push(rt, &mut self.output, reply(rt, text).as_str(), ""),
+            "bytes" => push(rt, &mut self.output, repeated(rt, text).as_str(), ""),
             "replace" | "append" | "pad" => self.change_policy(rt, mark, text),
             "" | "#" | "file" | "chmod" | "mode" | "sql" => {}
             _ => panic!(rt; "line {}: no such word", self.line),
@@ -292,16 +321,17 @@ impl Step {
         };
         let is_wanted = ran.is(self.status, self.output.as_str(), self.errors.as_str());
         if !is_wanted || self.leaves_file(rt, host, folder) {
-            self.fail(rt, folder, &ran);
+            self.fail(rt, host, folder, &ran);
         }
     }
 
     /// Stops the test, and prints what was wanted, what came, and where.
-    fn fail(&self, rt: &impl Tester, folder: &str, ran: &Ran) {
+    fn fail(&self, rt: &impl Tester, host: &HostRuntime, folder: &str, ran: &Ran) {
         let came = ran.text(rt);
+        let form = form_of(rt, host, folder);
         let wanted = text_of(rt, self.status, self.output.as_str(), self.errors.as_str());
         panic!(rt;
-            "{folder}, line {}: {}\nwanted: {wanted}, without the file {:?}\ncame:   {came}",
+            "{folder} ({form:?}), line {}: {}\nwanted: {wanted}, without the file {:?}\ncame:   {came}",
             self.line, self.command, self.missing
         );
     }
@@ -331,10 +361,22 @@ fn change_files(rt: &impl Tester, host: &HostRuntime, folder: &str, mark: &str, 
     }
 }
 
+/// The line as it counts over a database of this form: empty if it is marked for the other one.
+fn line_over(form: Form, line: &str) -> &str {
+    let (mark, rest) = line.split_once(' ').unwrap_or((line, ""));
+    match (mark, form) {
+        ("in-rows", Form::Rows) | ("in-file", Form::File) => rest,
+        ("in-rows" | "in-file", _) => "",
+        _ => line,
+    }
+}
+
 /// Plays the transcript over the files of a folder.
 pub(crate) fn play(rt: &impl Tester, host: &HostRuntime, folder: &str, transcript: &str) {
+    let form = form_of(rt, host, folder);
     let mut step = Step::new(rt.alloc(), 0);
     for (at, line) in transcript.lines().enumerate() {
+        let line = line_over(form, line);
         let (mark, text) = line.split_once(' ').unwrap_or((line, ""));
         if matches!(
             mark,
@@ -349,7 +391,7 @@ pub(crate) fn play(rt: &impl Tester, host: &HostRuntime, folder: &str, transcrip
     step.run(rt, host, folder);
 }
 
-/// Plays the transcript in a folder of its own, with this policy.
+/// Plays the transcript in a folder of its own, with this policy and no database.
 pub(crate) fn perform(
     rt: &impl Tester,
     host: &HostRuntime,
@@ -360,4 +402,19 @@ pub(crate) fn perform(
     prepare(rt, host, folder, policy);
     play(rt, host, folder, transcript);
     remove(host, folder);
+}
+
+/// Plays the transcript over a database of each form.
+pub(crate) fn perform_on_forms(
+    rt: &impl Tester,
+    host: &HostRuntime,
+    folder: &str,
+    policy: &str,
+    transcript: &str,
+) {
+    for form in FORMS {
+        prepare_on(rt, host, folder, policy, form);
+        play(rt, host, folder, transcript);
+        remove(host, folder);
+    }
 }

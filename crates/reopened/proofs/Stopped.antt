@@ -23,7 +23,7 @@ use Rattle.tables.proofs.Opened.{kept_is_sound}
 use Rattle.store.specs.Database.{alone}
 use Rattle.store.specs.Normal.{AreMarked, normal, settled}
 use Rattle.store.specs.Shown.{IsHonest, Leaves}
-use Rattle.placed.specs.Placed.{beside}
+use Rattle.placed.specs.Placed.{AreHonest, beside}
 use Rattle.placed.specs.View.{shown_meta, shown_number, view}
 use Rattle.placed.specs.declared.placed.Placed.{Placed}
 use Rattle.refinement.specs.Left.{IsAmong, IsBoundedBy}
@@ -69,7 +69,7 @@ viewed_marked file t marked = marked
 -- ---- what a stop leaves
 
 module _ {D C : Type 0} {g : disk.Ghosts D} (d : disk.Ghosts C) (s : Placed (Store (FileStore D g)) C) (bound : Bound)
-    (honest : IsHonest (alone over_files) s.rows × IsTrue (d.is_clean s.disk))
+    (honest : AreHonest (alone over_files) d s)
     (b : IsBoundedBy (beside (alone over_files) d) s bound) (file : List ℕ) (may_file : d.may_leave s.disk file) where
   sound_with : (db : Trees) → files.recovers s.rows.conn.store db → AreAmongWith db file bound
   sound_with db found =

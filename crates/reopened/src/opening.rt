@@ -1,6 +1,6 @@
 //! Opens a database with a file of contents: in the world of a new server, or in the one that they hold.
 
-ghost use Rattle.std.specs.Prelude.{List, ℕ, IfOk, IfErr, IsTrue};
+ghost use Rattle.std.specs.Prelude.{◌≡◌, false, List, ℕ, IfOk, IfErr, IsTrue};
 ghost use Rattle.sqlite_trees.specs.View.{IsClean};
 ghost use Rattle.sqlite_wal.specs.Files.{image_at};
 ghost use Rattle.sqlite_wal.specs.Recovery.{Image};
@@ -11,7 +11,7 @@ ghost use Rattle.model.specs.Bounds.{Bound};
 ghost use Rattle.tables.specs.Shown.{connection, committed, HasNoTable};
 ghost use Rattle.store.specs.Database.{alone};
 ghost use Rattle.store.specs.Shown.{IsHonest};
-ghost use Rattle.placed.specs.Placed.{beside, database_of, file_of};
+ghost use Rattle.placed.specs.Placed.{beside, database_of, file_of, has_noted_loss};
 ghost use Rattle.refinement.specs.Left.{IsBoundedBy};
 ghost use Rattle.refinement.specs.Opening.{IsAt, IsAtOne};
 ghost use Rattle.reopened.specs.Opening.{AreAmongWith, Fails, HoldAmong, IsServedBy};
@@ -79,13 +79,13 @@ pub fn open_beside<S: Start, D: Disk + Drop>(
 }
 
 /// A stop leaves of a database over files, and of its file of contents, what together represents one of the worlds of
-/// the store's bound, whatever it leaves of each. The call closes the store, and is about a stop before that; both
-/// disks have to be honest to their ends.
+/// the store's bound, whatever it leaves of each, if no content was noted as lost. The call closes the store, and is about a
+/// stop before that; both disks have to be honest to their ends.
 pub fn stop_law<D: Disk + Drop, C: Disk + Drop>(
     store: Placed<Store<FileStore<D>>, C>,
 ) -> (FileStore<D>, C)
     ensures { (bound : Bound) → IsClean (view result.0) → IsTrue (C.Disk.is_clean result.1)
-        → IsBoundedBy (beside (alone over_files) C.Disk) store bound
+        → has_noted_loss store ≡ false → IsBoundedBy (beside (alone over_files) C.Disk) store bound
         → (image : Image) → (state (connection (database_of store)).store).may_leave image
         → (file : List ℕ) → C.Disk.may_leave (file_of store) file → HoldAmong image file bound }
 {

@@ -7,7 +7,7 @@ ghost use Rattle.server.specs.Commands.{IsAnswered};
 ghost use Rattle.server.specs.Jobs.{Call, Calls, HasFinished, Helps, IsTurn, Job, Serves, ServesClean, Tidies, seen_in, first_turn, has_stopped};
 ghost use Rattle.faults.specs.Statuses.{is_reported};
 ghost use Rattle.faults.specs.declared.faults.Fault.TheVariants.{Contents};
-ghost use Rattle.faults.specs.declared.contents.ContentsCause.TheVariants.{Failed};
+ghost use Rattle.faults.specs.declared.contents_cause.ContentsCause.TheVariants.{Failed};
 ghost use Rattle.machine.specs.Observations.{called};
 
 use crate::operators::OperatorContext;

@@ -38,7 +38,7 @@ fn advance<S: Store>(
 {
     match inspection.advance(alloc, store)? {
         Advance::More => {}
-        Advance::Damaged(line) => print(pieces, line.as_bytes())?,
+        Advance::Damaged(line) | Advance::Unreadable(line) => print(pieces, line.as_bytes())?,
         Advance::Done => {
             inspection.finish(pieces)?;
             return Ok(true);

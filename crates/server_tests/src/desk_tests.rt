@@ -1,12 +1,13 @@
 //! The desk's replies to requests, without the lines that a connection adds.
 
 use crate::harness::{Tester, lock_path, oid, repo, unwrap, user};
-use crate::server::{CREATED, EXPIRY, NOW, ROW, Server, policy_with};
+use crate::server::{CREATED, EXPIRY, NOW, ROW, Server, Trial, policy_with, try_on_forms};
 use desk::{ForeseeFault, Reply, ReplyBody, RepoRequest, answer, foresee, view};
 use forms::{LockRequest, PutRequest, Request, read_form};
 use model::Form;
 use names::{Moment, Operation, Rule, SliceSource, VecSink};
 use service::send_reply;
+use store::Store;
 
 /// Ann's upload token, and her download token.
 const ANN: &[u8] = b"Bearer aaaaaaaaaaaaaaaaaaaaaaaaaaaaaaaaaaaaaaaaaaaaaaaaaaaaaaaaaaaaaaaa";
@@ -22,9 +23,9 @@ fn lock_request(rt: &impl Tester) -> Request {
 }
 
 /// The desk's reply to a request, with this content.
-fn reply_to(
+fn reply_to<S: Store>(
     rt: &impl Tester,
-    server: &mut Server,
+    server: &mut Server<S>,
     bearer: &[u8],
     repo: &str,
     request: &Result<Request, Rule>,
@@ -60,15 +61,23 @@ fn text_of(reply: &Reply) -> &str {
 const ABC: &str = "ba7816bf8f01cfea414140de5dae2223b00361a396177a9cb410ff61f20015ad";
 
 /// A front of its own: it takes no message, and no JSON is read.
+#[derive(Drop)]
+struct Front;
+
+impl Trial for Front {
+    fn take<S: Store>(&mut self, rt: &impl Tester, server: &mut Server<S>) {
+        let request = Ok(lock_request(rt));
+        let reply = reply_to(rt, server, ANN, "studio/film", &request, b"");
+        let mut sink = VecSink::new(rt.alloc(), 7);
+        unwrap(rt, send_reply(&mut sink, &reply, "", false));
+        let text = unwrap(rt, str::from_utf8(sink.taken()));
+        assert_eq!(rt; text, CREATED);
+    }
+}
+
 #[test]
 fn a_front_without_messages_locks_a_path(rt: HostRuntime) {
-    let mut server = Server::new(&rt);
-    let request = Ok(lock_request(&rt));
-    let reply = reply_to(&rt, &mut server, ANN, "studio/film", &request, b"");
-    let mut sink = VecSink::new(rt.alloc(), 7);
-    unwrap(&rt, send_reply(&mut sink, &reply, "", false));
-    let text = unwrap(&rt, str::from_utf8(sink.taken()));
-    assert_eq!(rt; text, CREATED);
+    try_on_forms(&rt, &mut Front);
 }
 
 /// A user and a repository; the numbers of tokens, objects and locks that the user sees, the number of locks ever made, and
@@ -84,94 +93,121 @@ const SIGHTS: &[Sight] = &[
     ("ann", "studio/game", 1, 0, 0, 0, 0),
 ];
 
-/// A server with the object `abc` and ann's lock on `art/hero.psd`.
-fn with_object_and_lock(rt: &impl Tester) -> Server {
-    let mut server = Server::new(rt);
+/// Adds the object `abc`, and ann's lock on `art/hero.psd`.
+fn add_object_and_lock<S: Store>(rt: &impl Tester, server: &mut Server<S>) {
     let upload = Ok(Request::Put(PutRequest {
         name: oid(rt, ABC),
         ref_name: None,
     }));
-    let stored = reply_to(rt, &mut server, ANN, "studio/film", &upload, b"abc");
+    let stored = reply_to(rt, server, ANN, "studio/film", &upload, b"abc");
     assert!(rt; stored.rule.is_none());
     let lock = Ok(lock_request(rt));
-    let locked = reply_to(rt, &mut server, ANN, "studio/film", &lock, b"");
+    let locked = reply_to(rt, server, ANN, "studio/film", &lock, b"");
     assert!(rt; locked.rule.is_none());
-    server
+}
+
+/// What each user sees.
+#[derive(Drop)]
+struct Sights;
+
+impl Trial for Sights {
+    fn take<S: Store>(&mut self, rt: &impl Tester, server: &mut Server<S>) {
+        add_object_and_lock(rt, server);
+        for &(name, place, tokens, objects, locks, made, room) in SIGHTS {
+            let (name, place) = (user(rt, name), repo(rt, place));
+            let seen = view(rt.alloc(), &mut server.store, &server.policy, &name, &place);
+            let seen = unwrap(rt, seen);
+            assert_eq!(rt; seen.tokens.len(), tokens);
+            assert_eq!(rt; seen.objects.len(), objects);
+            assert_eq!(rt; seen.locks.len(), locks);
+            assert_eq!(rt; seen.made, made);
+            assert!(rt; seen.room == room);
+        }
+    }
 }
 
 #[test]
 fn a_view_has_what_its_user_sees(rt: HostRuntime) {
-    let mut server = with_object_and_lock(&rt);
-    for &(name, place, tokens, objects, locks, made, room) in SIGHTS {
-        let (name, place) = (user(&rt, name), repo(&rt, place));
-        let seen = view(rt.alloc(), &mut server.store, &server.policy, &name, &place);
-        let seen = unwrap(&rt, seen);
-        assert_eq!(rt; seen.tokens.len(), tokens);
-        assert_eq!(rt; seen.objects.len(), objects);
-        assert_eq!(rt; seen.locks.len(), locks);
-        assert_eq!(rt; seen.made, made);
-        assert!(rt; seen.room == room);
-    }
+    try_on_forms(&rt, &mut Sights);
 }
 
 /// The tokens of ann by the SHA-256 of their texts, which begins with 52 for 64 times `c`, and with ff for 64 times `a`.
+#[derive(Drop)]
+struct Listed;
+
+impl Trial for Listed {
+    fn take<S: Store>(&mut self, rt: &impl Tester, server: &mut Server<S>) {
+        add_object_and_lock(rt, server);
+        let (ann, film) = (user(rt, "ann"), repo(rt, "studio/film"));
+        let seen = view(rt.alloc(), &mut server.store, &server.policy, &ann, &film);
+        let seen = unwrap(rt, seen);
+        assert!(rt;
+            seen.tokens
+                .as_slice()
+                .first()
+                .map_or(false, |token| token.digest[0] == 0x52)
+        );
+        assert!(rt;
+            seen.tokens
+                .as_slice()
+                .last()
+                .map_or(false, |token| token.digest[0] == 0xff)
+        );
+        assert!(rt;
+            seen.tokens
+                .as_slice()
+                .first()
+                .map_or(false, |token| token.operation == Operation::Download)
+        );
+        assert!(rt;
+            seen.objects
+                .as_slice()
+                .first()
+                .map_or(false, |object| object.name.text() == ABC)
+        );
+        assert!(rt;
+            seen.objects
+                .as_slice()
+                .first()
+                .map_or(false, |object| object.size.get() == 3)
+        );
+        assert!(rt;
+            seen.locks
+                .as_slice()
+                .first()
+                .map_or(false, |lock| lock.id.get() == 1)
+        );
+        assert!(rt;
+            seen.locks
+                .as_slice()
+                .first()
+                .map_or(false, |lock| lock.path.as_str() == "art/hero.psd")
+        );
+    }
+}
+
 #[test]
 fn a_view_lists_tokens_objects_and_locks(rt: HostRuntime) {
-    let mut server = with_object_and_lock(&rt);
-    let (ann, film) = (user(&rt, "ann"), repo(&rt, "studio/film"));
-    let seen = view(rt.alloc(), &mut server.store, &server.policy, &ann, &film);
-    let seen = unwrap(&rt, seen);
-    assert!(rt;
-        seen.tokens
-            .as_slice()
-            .first()
-            .map_or(false, |token| token.digest[0] == 0x52)
-    );
-    assert!(rt;
-        seen.tokens
-            .as_slice()
-            .last()
-            .map_or(false, |token| token.digest[0] == 0xff)
-    );
-    assert!(rt;
-        seen.tokens
-            .as_slice()
-            .first()
-            .map_or(false, |token| token.operation == Operation::Download)
-    );
-    assert!(rt;
-        seen.objects
-            .as_slice()
-            .first()
-            .map_or(false, |object| object.name.text() == ABC)
-    );
-    assert!(rt;
-        seen.objects
-            .as_slice()
-            .first()
-            .map_or(false, |object| object.size.get() == 3)
-    );
-    assert!(rt;
-        seen.locks
-            .as_slice()
-            .first()
-            .map_or(false, |lock| lock.id.get() == 1)
-    );
-    assert!(rt;
-        seen.locks
-            .as_slice()
-            .first()
-            .map_or(false, |lock| lock.path.as_str() == "art/hero.psd")
-    );
+    try_on_forms(&rt, &mut Listed);
+}
+
+/// The room under a quota of one byte.
+#[derive(Drop)]
+struct Lowered;
+
+impl Trial for Lowered {
+    fn take<S: Store>(&mut self, rt: &impl Tester, server: &mut Server<S>) {
+        add_object_and_lock(rt, server);
+        let lowered = policy_with(rt, "1", ROW);
+        let (ann, film) = (user(rt, "ann"), repo(rt, "studio/film"));
+        let seen = view(rt.alloc(), &mut server.store, &lowered, &ann, &film);
+        assert!(rt; unwrap(rt, seen).room == -2);
+    }
 }
 
 #[test]
 fn the_room_of_a_view_is_below_zero_after_the_quota_was_lowered(rt: HostRuntime) {
-    let mut server = with_object_and_lock(&rt);
-    let lowered = policy_with(&rt, "1", ROW);
-    let (ann, film) = (user(&rt, "ann"), repo(&rt, "studio/film"));
-    let seen = view(rt.alloc(), &mut server.store, &lowered, &ann, &film);
-    assert!(rt; unwrap(&rt, seen).room == -2);
+    try_on_forms(&rt, &mut Lowered);
 }
 
 const BOB: &[u8] = b"Bearer bbbbbbbbbbbbbbbbbbbbbbbbbbbbbbbbbbbbbbbbbbbbbbbbbbbbbbbbbbbbbbbb";
@@ -240,9 +276,9 @@ const REQUESTS: &[Asked] = &[
 ];
 
 /// The reply that is foreseen from the view of the user.
-fn foreseen(
+fn foreseen<S: Store>(
     rt: &impl Tester,
-    server: &mut Server,
+    server: &mut Server<S>,
     name: &str,
     asked: &RepoRequest<'_>,
     second: u64,
@@ -254,41 +290,44 @@ fn foreseen(
     foresee(rt.alloc(), &unwrap(rt, seen), now, asked, body)
 }
 
+/// The requests, each of them foreseen before it is answered.
+#[derive(Drop)]
+struct ForeseenRequests;
+
+impl Trial for ForeseenRequests {
+    fn take<S: Store>(&mut self, rt: &impl Tester, server: &mut Server<S>) {
+        for &(name, bearer, form, parameter, body) in REQUESTS {
+            let request = unwrap(
+                rt,
+                read_form(rt.alloc(), form, parameter, "", body.as_bytes()),
+            );
+            let asked = RepoRequest {
+                authorization: Some(bearer),
+                repo: "studio/film",
+                request: &request,
+            };
+            let want = foreseen(rt, server, name, &asked, NOW, body.as_bytes());
+            let want = unwrap(rt, want);
+            let film = "studio/film";
+            let reply = reply_to(rt, server, bearer, film, &request, body.as_bytes());
+            assert!(rt; !reply.is_store_refusal(), "{body}");
+            assert!(rt;
+                reply.status == want.status && reply.rule == want.rule,
+                "{body}"
+            );
+            assert_eq!(rt; text_of(&reply), text_of(&want));
+            let is_content = matches!(reply.body, ReplyBody::Content(..));
+            assert!(rt;
+                is_content == matches!(want.body, ReplyBody::Content(..)),
+                "{body}"
+            );
+        }
+    }
+}
+
 #[test]
 fn a_reply_is_foreseen_from_the_view_of_its_user(rt: HostRuntime) {
-    let mut server = Server::new(&rt);
-    for &(name, bearer, form, parameter, body) in REQUESTS {
-        let request = unwrap(
-            &rt,
-            read_form(rt.alloc(), form, parameter, "", body.as_bytes()),
-        );
-        let asked = RepoRequest {
-            authorization: Some(bearer),
-            repo: "studio/film",
-            request: &request,
-        };
-        let want = foreseen(&rt, &mut server, name, &asked, NOW, body.as_bytes());
-        let want = unwrap(&rt, want);
-        let reply = reply_to(
-            &rt,
-            &mut server,
-            bearer,
-            "studio/film",
-            &request,
-            body.as_bytes(),
-        );
-        assert!(rt; !reply.is_store_refusal(), "{body}");
-        assert!(rt;
-            reply.status == want.status && reply.rule == want.rule,
-            "{body}"
-        );
-        assert_eq!(rt; text_of(&reply), text_of(&want));
-        let is_content = matches!(reply.body, ReplyBody::Content(..));
-        assert!(rt;
-            is_content == matches!(want.body, ReplyBody::Content(..)),
-            "{body}"
-        );
-    }
+    try_on_forms(&rt, &mut ForeseenRequests);
 }
 
 /// Tokens and moments, and whether ann's view has the caller: bob's token is none of hers, and hers is valid up to its expiry.
@@ -300,22 +339,31 @@ const CALLERS: &[(Option<&[u8]>, u64, bool)] = &[
     (Some(ANN), EXPIRY - 1, true),
 ];
 
+/// Each caller, before the view of ann.
+#[derive(Drop)]
+struct Callers;
+
+impl Trial for Callers {
+    fn take<S: Store>(&mut self, rt: &impl Tester, server: &mut Server<S>) {
+        let request = Ok(lock_request(rt));
+        for &(authorization, second, is_caller) in CALLERS {
+            let asked = RepoRequest {
+                authorization,
+                repo: "studio/film",
+                request: &request,
+            };
+            let fault = foreseen(rt, server, "ann", &asked, second, b"").err();
+            let want = if is_caller {
+                None
+            } else {
+                Some(ForeseeFault::NoCaller)
+            };
+            assert!(rt; fault == want);
+        }
+    }
+}
+
 #[test]
 fn a_token_that_is_not_of_the_view_has_no_caller(rt: HostRuntime) {
-    let mut server = Server::new(&rt);
-    let request = Ok(lock_request(&rt));
-    for &(authorization, second, is_caller) in CALLERS {
-        let asked = RepoRequest {
-            authorization,
-            repo: "studio/film",
-            request: &request,
-        };
-        let fault = foreseen(&rt, &mut server, "ann", &asked, second, b"").err();
-        let want = if is_caller {
-            None
-        } else {
-            Some(ForeseeFault::NoCaller)
-        };
-        assert!(rt; fault == want);
-    }
+    try_on_forms(&rt, &mut Callers);
 }

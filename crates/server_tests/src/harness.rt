@@ -54,9 +54,9 @@ pub(crate) fn moment(rt: &impl Tester, second: u64) -> Moment {
     unwrap(rt, Moment::read(second).ok_or(()))
 }
 
-/// A new store in memory, with its tables.
-pub(crate) fn in_memory(rt: &impl Tester) -> Store<MemStore> {
+/// A new store in memory, with the tables of this layout.
+pub(crate) fn in_memory(rt: &impl Tester, layout: Layout) -> Store<MemStore> {
     let mut store = unwrap(rt, Store::open_memory(rt.alloc()));
-    unwrap(rt, store.create_or_check(rt.alloc(), Layout::Rows));
+    unwrap(rt, store.create_or_check(rt.alloc(), layout));
     store
 }

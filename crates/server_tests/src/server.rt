@@ -2,11 +2,13 @@
 
 use crate::harness::{Tester, in_memory, moment, repo, unwrap, user};
 use names::{Moment, Operation, Sink, SliceSource, Source, VecSink};
+use placed::Placed;
 use policy::Policy;
 use service::{End, Routes, Served, serve};
 use sha2::{Digest, Sha256};
-use sqlite::MemStore;
-use tables::{Alter, NewToken, Store};
+use sqlite_disk::Memory;
+use store::Store;
+use tables::{Layout, NewToken};
 
 /// The moment of a connection, unless a test gives another.
 pub(crate) const NOW: u64 = 1_463_500_146;
@@ -63,7 +65,7 @@ const TOKENS: &[(u8, &str, &str, Operation)] = &[
 ];
 
 /// Stores the tokens.
-pub(crate) fn keep_tokens<S: Alter>(rt: &impl Tester, store: &mut Store<S>) {
+pub(crate) fn keep_tokens<S: Store>(rt: &impl Tester, store: &mut S) {
     for &(byte, name, place, operation) in TOKENS {
         let name = user(rt, name);
         let place = repo(rt, place);
@@ -92,9 +94,9 @@ pub(crate) fn policy_with(rt: &impl Tester, quota: &str, rows: &str) -> Policy {
 
 /// Serves a connection with these bytes at this second; each read returns at most `most` bytes, and
 /// each write takes at most `most`. Returns the text sent and the end.
-pub(crate) fn sent_by<S: Alter>(
+pub(crate) fn sent_by<S: Store>(
     rt: &impl Tester,
-    store: &mut Store<S>,
+    store: &mut S,
     policy: &Policy,
     second: u64,
     bytes: &[u8],
@@ -114,16 +116,33 @@ pub(crate) fn sent_by<S: Alter>(
     Sent { text, served }
 }
 
-/// A server with the tokens.
+/// A server over a store.
 #[derive(Drop)]
-pub(crate) struct Server {
-    pub store: Store<MemStore>,
+pub(crate) struct Server<S> {
+    pub store: S,
     pub policy: Policy,
 }
 
-impl Server {
-    pub fn new(rt: &impl Tester) -> Server {
-        let mut store = in_memory(rt);
+/// What a test does with a new server, whatever form its database has.
+pub(crate) trait Trial {
+    fn take<S: Store>(&mut self, rt: &impl Tester, server: &mut Server<S>);
+}
+
+/// Has a new server of each form take the trial: one whose contents are rows of its database, and one whose contents are
+/// in a file beside it.
+// No other function owns a server, since each one that does takes long to prove.
+pub(crate) fn try_on_forms(rt: &impl Tester, trial: &mut impl Trial) {
+    let mut rows = Server::new(rt, in_memory(rt, Layout::Rows));
+    trial.take(rt, &mut rows);
+    let database = in_memory(rt, Layout::Places);
+    let store = Placed::new(rt.alloc(), database, Memory::new(rt.alloc()));
+    let mut placed = Server::new(rt, store);
+    trial.take(rt, &mut placed);
+}
+
+impl<S: Store> Server<S> {
+    /// A server over this store, which gets the tokens.
+    pub fn new(rt: &impl Tester, mut store: S) -> Server<S> {
         keep_tokens(rt, &mut store);
         Server {
             store,

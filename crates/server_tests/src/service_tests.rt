@@ -4,4 +4,5 @@ mod arrivals;
 mod devices;
 mod foreseen;
 mod judging;
+mod large;
 mod reading;

@@ -1,4 +1,5 @@
 pub mod Normal
 pub mod Shown
 pub mod Content
+pub mod ReadFaults
 pub mod Database

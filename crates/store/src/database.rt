@@ -3,6 +3,7 @@
 ghost use Rattle.store.specs.Database.{alone};
 
 use crate::content::{ChunkContent, content_in};
+use crate::read_fault::ReadFault;
 use crate::room::Room;
 use crate::state::State;
 use crate::store::Store;
@@ -145,10 +146,10 @@ impl<S: Alter> Store for tables::Store<S> {
         tables::Store::begin_upload(self, alloc, upload)
     }
 
-    fn chunk(&mut self, upload: UploadId, n: u32) -> Result<Option<ChunkContent>, StoreFault> {
+    fn chunk(&mut self, upload: UploadId, n: u32) -> Result<Option<ChunkContent>, ReadFault> {
         match tables::Store::chunk(self, upload, n) {
             Ok(row) => Ok(content_in(row)),
-            Err(fault) => Err(fault),
+            Err(fault) => Err(ReadFault::Store(fault)),
         }
     }
 
@@ -182,5 +183,9 @@ impl<S: Alter> Store for tables::Store<S> {
 
     fn discard_object(&mut self, repo: &RepoName, oid: &Oid) -> Result<bool, StoreFault> {
         tables::Store::discard_object(self, repo, oid)
+    }
+
+    fn note_loss(&mut self) -> bool {
+        false
     }
 }

@@ -1,6 +1,6 @@
 //! The calls.
 
-ghost use Rattle.std.specs.Prelude.{◌≡◌, ⊤, length, pos, not, find, filter, take, is_some, option_map, Some, IfOk};
+ghost use Rattle.std.specs.Prelude.{◌≡◌, ⊤, true, false, length, pos, not, find, filter, take, is_some, option_map, Some, IfOk};
 ghost use Rattle.names.specs.Names.{repo_text, ref_text, path_text, user_text};
 ghost use Rattle.tables.specs.Statements.{is_at, has_id, is_in, is_from, by_id, has_digest, is_held_by, is_for, has_expired, is_object, is_staged, is_chunk, is_retired_as, is_retired_in, by_oid, with_chunk, without_lock, without_expired};
 ghost use Rattle.tables.specs.Steps.{IsLockOf, AreLocksOf, made_of, used_of, asked_lock, outcome_of, read_creation, after_create, IsTokenOf, AreTokensOf, asked_token, has_token, after_add};
@@ -9,9 +9,11 @@ ghost use Rattle.tables.specs.Retiring.{after_retire, AreNamesOf};
 ghost use Rattle.tables.specs.Discarding.{after_discard};
 ghost use Rattle.store.specs.Content.{IsContentOf};
 ghost use Rattle.store.specs.Normal.{normal};
+ghost use Rattle.store.specs.ReadFaults.{result_behind};
 ghost use Rattle.store.specs.Shown.{IsHonest, Moves, AddsNothing, Reads, Changes, PutsOr, Begins, Finds};
 
 use crate::content::ChunkContent;
+use crate::read_fault::ReadFault;
 use crate::room::Room;
 use crate::state::State;
 use names::{LockId, LockPath, Moment, Oid, RefName, RepoName, Size, UserName};
@@ -259,9 +261,10 @@ pub trait Store: State {
     ///
     /// # Errors
     ///
-    /// `Refused` or `Memory`. The tables are unchanged in any case.
-    fn chunk(&mut self, upload: UploadId, n: u32) -> Result<Option<ChunkContent>, StoreFault>
-        ensures { Reads Self.State self.old self.new result
+    /// `Unreadable` if the file of contents fails to return it, but answers other calls; `Refused` or `Memory`. The
+    /// tables are unchanged in any case.
+    fn chunk(&mut self, upload: UploadId, n: u32) -> Result<Option<ChunkContent>, ReadFault>
+        ensures { Reads Self.State self.old self.new (result_behind result)
             (λ t found. IsContentOf found
             (find (is_chunk (upload_number upload) (pos n)) t.chunks)) };
 
@@ -342,4 +345,11 @@ pub trait Store: State {
             (after_discard (repo_text repo.now) oid.now)
             (λ t removed. removed
             ≡ is_some (find (is_object (repo_text repo.now) oid.now) t.uploads)) };
+
+    /// Notes that a content is lost, before its object is removed as a damaged one: the disk did not return what was
+    /// written, so nothing is promised of the store from now on, until it is opened anew. Returns false, and changes
+    /// nothing, if the store has no file of contents.
+    fn note_loss(&mut self) -> bool
+        ensures noted { result ≡ true → IsHonest Self.State self.new → ⊥ }
+        ensures none { result ≡ false → self.new ≡ self.old };
 }

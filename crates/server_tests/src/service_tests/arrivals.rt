@@ -8,6 +8,7 @@ use names::{DeviceFault, Sink, SliceSource, Source, VecSink};
 use service::Served;
 use std::cell::Cell;
 use std::process::Abort;
+use store::Store;
 
 /// The worked lock in a message that asks to be the last, and its reply.
 const LAST: &str =
@@ -112,28 +113,38 @@ struct Wanted<'w> {
     served: Served,
 }
 
-/// Asserts that a new server serves these messages this way, with at most `most` bytes per read.
-fn expect_calls(rt: &impl Tester, messages: &[&str], most: usize, want: &Wanted<'_>) {
-    let bytes = texts(rt, messages);
-    let taken = Cell::new(0);
-    let mut source = Watched {
-        inner: SliceSource::new(bytes.as_bytes(), most),
-        returned: 0,
-        taken: &taken,
-        reads: Vec::new(rt.alloc()),
-    };
-    let mut sink = Metered {
-        inner: VecSink::new(rt.alloc(), usize::MAX),
-        taken: &taken,
-    };
-    let served = Server::new(rt).serve(rt, &mut source, &mut sink);
-    assert_eq!(rt;
-        (source.reads.as_slice(), source.returned),
-        (want.reads, want.returned),
-        "reads of {most}"
-    );
-    assert!(rt; sink.inner.taken() == want.text.as_bytes());
-    assert_eq!(rt; served, want.served);
+/// Messages that arrive at a server with at most `most` bytes per read, and how it has to serve them.
+#[derive(Drop)]
+struct Arriving<'w> {
+    messages: &'w [&'w str],
+    most: usize,
+    want: Wanted<'w>,
+}
+
+impl Trial for Arriving<'_> {
+    fn take<S: Store>(&mut self, rt: &impl Tester, server: &mut Server<S>) {
+        let (most, want) = (self.most, &self.want);
+        let bytes = texts(rt, self.messages);
+        let taken = Cell::new(0);
+        let mut source = Watched {
+            inner: SliceSource::new(bytes.as_bytes(), most),
+            returned: 0,
+            taken: &taken,
+            reads: Vec::new(rt.alloc()),
+        };
+        let mut sink = Metered {
+            inner: VecSink::new(rt.alloc(), usize::MAX),
+            taken: &taken,
+        };
+        let served = server.serve(rt, &mut source, &mut sink);
+        assert_eq!(rt;
+            (source.reads.as_slice(), source.returned),
+            (want.reads, want.returned),
+            "reads of {most}"
+        );
+        assert!(rt; sink.inner.taken() == want.text.as_bytes());
+        assert_eq!(rt; served, want.served);
+    }
 }
 
 /// Messages, and the most bytes of a read; then the reads of the source, the number of bytes that it
@@ -225,6 +236,11 @@ fn a_reply_is_written_before_more_is_read(rt: HostRuntime) {
             text: text.as_str(),
             served: served(replies.len(), *closes),
         };
-        expect_calls(&rt, messages, *most, &want);
+        let mut arriving = Arriving {
+            messages,
+            most: *most,
+            want,
+        };
+        try_on_forms(&rt, &mut arriving);
     }
 }

@@ -6,6 +6,7 @@ use names::{Counted, SliceSource, VecSink};
 use service::End;
 use std::io::{self, Read, Write};
 use std::process::Abort;
+use store::Store;
 
 /// The message that locks another path, and its reply after the worked lock's.
 const TREE: &str =
@@ -39,7 +40,7 @@ impl Read for ReadsAgain<'_> {
 
 /// The number of bytes of the worked lock, sent twice, before the one failed read; the replies; and the
 /// number of locks made.
-const READS: &[(usize, &[&str], u32)] = &[
+const READS: &[(usize, &'static [&'static str], u32)] = &[
     (0, &[], 0),
     (1, &[], 0),
     // The head has 157 bytes.
@@ -54,33 +55,47 @@ const READS: &[(usize, &[&str], u32)] = &[
     (360, &[CREATED, HELD], 1),
 ];
 
-/// Asserts that what was read before the one failed read is answered, and nothing is read after it.
-fn expect_one_failed_read(rt: &impl Tester, (good, replies, locks): &(usize, &[&str], u32)) {
-    let bytes = texts(rt, &[MESSAGE, MESSAGE]);
-    let mut server = Server::new(rt);
-    let mut source = Counted::new(ReadsAgain {
-        bytes: bytes.as_bytes(),
-        good: Some(*good),
-    });
-    let mut sink = VecSink::new(rt.alloc(), usize::MAX);
-    let served = server.serve(rt, &mut source, &mut sink);
-    let text = texts(rt, replies);
-    assert!(rt; sink.taken() == text.as_bytes(), "{good} bytes");
-    assert_eq!(rt;
-        (served.answered, served.end),
-        (replies.len(), End::ReadFailed)
-    );
-    let left = source.into_inner().bytes.len();
-    assert_eq!(rt;
-        (left, server.made(rt)),
-        (bytes.len().saturating_sub(*good), *locks)
-    );
+/// A case of [`READS`]: what was read before the one failed read is answered, and nothing is read after it.
+#[derive(Drop)]
+struct FailedRead {
+    good: usize,
+    replies: &'static [&'static str],
+    locks: u32,
+}
+
+impl Trial for FailedRead {
+    fn take<S: Store>(&mut self, rt: &impl Tester, server: &mut Server<S>) {
+        let good = self.good;
+        let bytes = texts(rt, &[MESSAGE, MESSAGE]);
+        let mut source = Counted::new(ReadsAgain {
+            bytes: bytes.as_bytes(),
+            good: Some(good),
+        });
+        let mut sink = VecSink::new(rt.alloc(), usize::MAX);
+        let served = server.serve(rt, &mut source, &mut sink);
+        let text = texts(rt, self.replies);
+        assert!(rt; sink.taken() == text.as_bytes(), "{good} bytes");
+        assert_eq!(rt;
+            (served.answered, served.end),
+            (self.replies.len(), End::ReadFailed)
+        );
+        let left = source.into_inner().bytes.len();
+        assert_eq!(rt;
+            (left, server.made(rt)),
+            (bytes.len().saturating_sub(good), self.locks)
+        );
+    }
 }
 
 #[test]
 fn no_read_is_tried_after_one_that_failed(rt: HostRuntime) {
-    for case in READS {
-        expect_one_failed_read(&rt, case);
+    for &(good, replies, locks) in READS {
+        let mut case = FailedRead {
+            good,
+            replies,
+            locks,
+        };
+        try_on_forms(&rt, &mut case);
     }
 }
 
@@ -117,29 +132,46 @@ const WRITES: &[(usize, usize, u32)] = &[
     (373, 1, 2),
 ];
 
-/// Asserts that nothing is written after the one failed write, and no message is answered.
-fn expect_one_failed_write(rt: &impl Tester, &(good, answered, locks): &(usize, usize, u32)) {
-    let bytes = texts(rt, &[MESSAGE, TREE]);
-    let mut server = Server::new(rt);
-    let mut source = SliceSource::new(bytes.as_bytes(), usize::MAX);
-    let mut sink = Counted::new(WritesAgain {
-        taken: Vec::new(rt.alloc()),
-        good: Some(good),
-    });
-    let served = server.serve(rt, &mut source, &mut sink);
-    let text = texts(rt, &[CREATED, CREATED_TREE]);
-    let taken = sink.into_inner().taken;
-    assert!(rt;
-        text.as_bytes().get(..good) == Some(taken.as_slice()),
-        "{good} bytes"
-    );
-    assert_eq!(rt; (served.answered, served.end), (answered, End::WriteFailed));
-    assert_eq!(rt; server.made(rt), locks);
+/// A case of [`WRITES`]: nothing is written after the one failed write, and no message is answered.
+#[derive(Drop)]
+struct FailedWrite {
+    good: usize,
+    answered: usize,
+    locks: u32,
+}
+
+impl Trial for FailedWrite {
+    fn take<S: Store>(&mut self, rt: &impl Tester, server: &mut Server<S>) {
+        let good = self.good;
+        let bytes = texts(rt, &[MESSAGE, TREE]);
+        let mut source = SliceSource::new(bytes.as_bytes(), usize::MAX);
+        let mut sink = Counted::new(WritesAgain {
+            taken: Vec::new(rt.alloc()),
+            good: Some(good),
+        });
+        let served = server.serve(rt, &mut source, &mut sink);
+        let text = texts(rt, &[CREATED, CREATED_TREE]);
+        let taken = sink.into_inner().taken;
+        assert!(rt;
+            text.as_bytes().get(..good) == Some(taken.as_slice()),
+            "{good} bytes"
+        );
+        assert_eq!(rt;
+            (served.answered, served.end),
+            (self.answered, End::WriteFailed)
+        );
+        assert_eq!(rt; server.made(rt), self.locks);
+    }
 }
 
 #[test]
 fn nothing_is_written_after_a_write_that_failed(rt: HostRuntime) {
-    for case in WRITES {
-        expect_one_failed_write(&rt, case);
+    for &(good, answered, locks) in WRITES {
+        let mut case = FailedWrite {
+            good,
+            answered,
+            locks,
+        };
+        try_on_forms(&rt, &mut case);
     }
 }

@@ -2,10 +2,12 @@
 //! what the server then writes.
 
 use crate::harness::{Tester, repo, unwrap, user};
-use crate::server::{NOW, Server, policy_with};
+use crate::server::{NOW, Server, Trial, policy_with, try_on_forms};
 use desk::{ForeseeFault, Reply, ReplyBody, foresee, view};
 use names::{Moment, VecSink};
+use policy::Policy;
 use service::{Message, Routes, read_message, send_reply};
+use store::Store;
 
 /// A generator of numbers: the multiplier and the increment are those of Knuth's MMIX.
 #[derive(Drop)]
@@ -157,8 +159,8 @@ fn placed(rt: &impl Tester, text: &str, name: &str, id: &str) -> String {
     unwrap(rt, text.replace(rt.alloc(), '#', id))
 }
 
-/// A server with a random policy.
-fn random_server(rt: &impl Tester, random: &mut Random) -> Server {
+/// A random policy.
+fn random_policy(rt: &impl Tester, random: &mut Random) -> Policy {
     let mut rows = String::new(rt.alloc());
     for _ in 0..random.below(4) {
         unwrap(rt, rows.push_str(random.of(ROWS)));
@@ -166,15 +168,13 @@ fn random_server(rt: &impl Tester, random: &mut Random) -> Server {
     for row in LAST_ROWS {
         unwrap(rt, rows.push_str(row));
     }
-    let mut server = Server::new(rt);
-    server.policy = policy_with(rt, random.of(QUOTAS), rows.as_str());
-    server
+    policy_with(rt, random.of(QUOTAS), rows.as_str())
 }
 
 /// The reply to the message that is foreseen from the view of the user.
-fn foreseen(
+fn foreseen<S: Store>(
     rt: &impl Tester,
-    server: &mut Server,
+    server: &mut Server<S>,
     name: &str,
     text: &[u8],
 ) -> Result<Reply, ForeseeFault> {
@@ -213,9 +213,11 @@ fn is_written(rt: &impl Tester, reply: &Reply, sent: &str) -> bool {
     }
 }
 
-/// How many requests were granted, were refused, and had no token of the user.
-#[derive(Clone, Copy)]
+/// Random messages to servers with random policies; how many requests were granted, were refused, and had no token of the
+/// user.
+#[derive(Drop)]
 struct Tally {
+    random: Random,
     granted: u32,
     refused: u32,
     strangers: u32,
@@ -223,10 +225,10 @@ struct Tally {
 
 impl Tally {
     /// Foresees the reply to a random message, sends the message to the server, and compares.
-    fn compare(&mut self, rt: &impl Tester, random: &mut Random, server: &mut Server) {
-        let letter = random.of(LETTERS);
-        let name = sender_of(random, letter);
-        let text = random_message(rt, random, letter);
+    fn compare<S: Store>(&mut self, rt: &impl Tester, server: &mut Server<S>) {
+        let letter = self.random.of(LETTERS);
+        let name = sender_of(&mut self.random, letter);
+        let text = random_message(rt, &mut self.random, letter);
         let want = foreseen(rt, server, name, text.as_bytes());
         let sent = server.answer(rt, text.as_bytes(), usize::MAX).text;
         match want {
@@ -249,19 +251,25 @@ impl Tally {
     }
 }
 
+impl Trial for Tally {
+    fn take<S: Store>(&mut self, rt: &impl Tester, server: &mut Server<S>) {
+        server.policy = random_policy(rt, &mut self.random);
+        for _ in 0..20 {
+            self.compare(rt, server);
+        }
+    }
+}
+
 #[test]
 fn replies_of_random_servers_are_foreseen(rt: HostRuntime) {
-    let mut random = Random { state: 1 };
     let mut tally = Tally {
+        random: Random { state: 1 },
         granted: 0,
         refused: 0,
         strangers: 0,
     };
     for _ in 0..25 {
-        let mut server = random_server(&rt, &mut random);
-        for _ in 0..20 {
-            tally.compare(&rt, &mut random, &mut server);
-        }
+        try_on_forms(&rt, &mut tally);
     }
     assert!(rt; tally.granted > 50 && tally.refused > 50 && tally.strangers > 50);
 }

@@ -1,5 +1,5 @@
-use Rattle.operator.proofs.Prelude.{Err, ⊤, ◌∙◌, ap, err_from_is_err_and, from_weaker, on_ok_weaker, refl, reads_lead, reads_then, subst, sym, IsPlain, vec_len}
-use Rattle.operator.proofs.Damaged.{inspected_on, inspected_so, line_printed, rows_length}
+use Rattle.operator.proofs.Prelude.{Err, ⊤, ◌∙◌, ap, inl, inr, err_from_is_err_and, from_weaker, on_ok_weaker, refl, reads_lead, reads_then, subst, sym, IsPlain, vec_len}
+use Rattle.operator.proofs.Damaged.{inspected_on, inspected_so, line_printed, on_ok_then, rows_length}
 use Rattle.operator.proofs.Failing.{is_output}
 use Rattle.operator.proofs.Printed.{none_on, printed_none}
 use Rattle.operator.proofs.Sound.{checked_none, inspected_sound}
@@ -15,7 +15,7 @@ steps-init g c = record {
   purpose = c.in_ok-inspection.ensures.purpose;
   silent = record {
     honest = c.begin.ensures.reads.same.was_honest;
-    each = λ honest world h. (refl, c.in_ok-inspection.inspection.rows.ok.0 ∙ rows_length g.S.State world c.begin.new.store c.in_ok-inspection.inspection.rows.items (c.in_ok-inspection.ensures.all.each honest world h));
+    each = λ honest world h zero. (refl, c.in_ok-inspection.inspection.rows.ok.0 ∙ rows_length g.S.State world c.begin.new.store c.in_ok-inspection.inspection.rows.items (c.in_ok-inspection.ensures.all.each honest world h));
   };
   pauses = c.in_ok-inspection.ensures.pauses;
   listed = λ honest ready. c.in_ok-inspection.ensures.rows honest ready;
@@ -65,15 +65,16 @@ steps-preserved g c = record {
   purpose = c.advance.ensures.purpose ∙ c.steps.invariant.purpose;
   silent = record {
     honest = λ k. c.steps.invariant.silent.honest (c.advance.ensures.quiet.honest k);
-    each = λ honest world h.
+    each = λ honest world h zero.
         let then = c.advance.ensures.quiet.honest honest in
-        let before = c.steps.invariant.silent.each then world h in
+        let before = c.steps.invariant.silent.each then world h (c.advance.ensures.unread zero) in
         let held = (reads_lead g.S.State c.args.store.now c.steps.store _ world (c.steps.invariant.world.each then world h).0 h).holds in
         let quiet = c.in_ok-advance.ensures.quiet.each honest world held in
         let rows = ap vec_len c.advance.ensures.rows ∙ before.1 in
         elim c.match-branch-4.branch [
           | in-More w ↦ (rw w.output-is before.0, rows)
-          | in-Damaged+in_ok-print-in-Damaged w ↦ absurd (rw w.in-Damaged.is at quiet)
+          | in-Damaged+in_ok-print-in-Damaged w ↦
+              elim w.in-Damaged.is [ inl is ↦ absurd (rw is at quiet) | inr is ↦ absurd ((rw is at quiet) zero) ]
         ];
   };
   pauses = c.advance.ensures.pauses ∙ c.steps.invariant.pauses;
@@ -114,11 +115,12 @@ pub returns-in-Done-clause-printed : goal.returns-in-Done-clause-printed
 returns-in-Done-clause-printed g c = record {
   honest = λ k. c.steps.invariant.silent.honest (c.advance.ensures.quiet.honest k);
   each = λ honest world h.
+      on_ok_then c.finish.result _ _ c.finish.ensures.read (λ zero.
       let then = c.advance.ensures.quiet.honest honest in
-      let silent = c.steps.invariant.silent.each then world h in
+      let silent = c.steps.invariant.silent.each then world h (c.advance.ensures.unread zero) in
       let none = (inspected_on g.S.State c.args.store.now c.steps.store c.advance.new.store c.steps.inspection c.advance.new.self c.steps.invariant.world c.advance.ensures.world).each honest world h in
       line_printed (g.K.Sink.taken c.args.output.now) (g.K.Sink.taken c.steps.output) (g.K.Sink.taken c.finish.new.output) _ _ _ _ _ c.finish.result silent.0 (c.advance.ensures.purpose ∙ c.steps.invariant.purpose)
-      (ap vec_len c.advance.ensures.rows ∙ silent.1) none.1 c.finish.ensures.text;
+      (ap vec_len c.advance.ensures.rows ∙ silent.1) none.1 c.finish.ensures.text);
 }
 
 pub returns-clause-printed : goal.returns-clause-printed
@@ -128,12 +130,13 @@ returns-clause-printed g c = from_weaker g.S.State c.args.store.now c.steps.stor
 
 pub returns-in-Done-clause-sound : goal.returns-in-Done-clause-sound
 returns-in-Done-clause-sound g c =
+    on_ok_then c.finish.result _ _ c.finish.ensures.read (λ zero.
     on_ok_weaker c.finish.result
     (λ none is ready.
     let before = c.steps.invariant.reads is in
     let reads = reads_then g.S.State c.args.store.now c.steps.store c.advance.new.store _ _ (λ _. ⊤) (λ world laws x y. tt) before (c.advance.ensures.reads (c.steps.invariant.purpose ∙ is)) in
     inspected_sound g.S.State c.args.store.now c.advance.new.store c.advance.new.self reads.same
     (c.in_ok-advance.ensures.checked c.steps.invariant.pauses (before.same.ready ready) (c.steps.invariant.checked is ready)) (rw c.in-Done.is at c.in_ok-advance.ensures.done)
-    (none (c.advance.ensures.purpose ∙ c.steps.invariant.purpose ∙ is))
+    (none (c.advance.ensures.purpose ∙ c.steps.invariant.purpose ∙ is)) zero
     (λ honest had. rw c.advance.ensures.rows (c.steps.invariant.listed (c.advance.ensures.world.honest honest) had)) ready)
-    c.finish.ensures.none
+    c.finish.ensures.none)

@@ -10,5 +10,6 @@ invariant-objects g l = record {
   purpose : l.self.purpose ≡ l.fn.self.purpose;
   rows : l.self.rows ≡ l.fn.self.rows;
   pauses : l.self.pauses ≡ l.fn.self.pauses;
+  unread : l.self.unread ≡ l.fn.self.unread;
   checked : l.fn.self.pauses ≡ false → HasTables g.S.State l.fn.store → IsChecked g.S.State l.fn.store l.fn.self → IsChecked g.S.State l.store l.self;
 }

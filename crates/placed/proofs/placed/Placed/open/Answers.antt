@@ -1,4 +1,5 @@
 -- The calls make a store that serves the places of the database.
+use Rattle.placed.proofs.Prelude.{false}
 use Rattle.std.proofs.lemmas.Result.{err_from_is_err_and}
 use Rattle.store.proofs.Moved.{moves_none, nothing_none}
 use Rattle.placed.proofs.Cleared.{clears_none, clears_then}
@@ -15,6 +16,7 @@ made g c = record {
   regions = c.in_ok-regions.regions;
   staged = c.new.result;
   unsynced = 0;
+  has_lost = false;
   alloc = c.args.alloc;
 }
 

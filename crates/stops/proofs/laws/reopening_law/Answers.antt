@@ -1,6 +1,6 @@
-use Rattle.operator.proofs.Prelude.{[], ◌∷◌, bound_of_works, steps_of}
-use Rattle.operator.proofs.Reached.{reached_then, works_reached, reached_held, works_leave_one}
-use Rattle.operator.proofs.reopening.reopening_law.Goals as goal
+use Rattle.stops.proofs.Prelude.{[], ◌∷◌, bound_of_works, steps_of}
+use Rattle.stops.proofs.Reached.{reached_then, works_reached, reached_held, works_leave_one}
+use Rattle.stops.proofs.laws.reopening_law.Goals as goal
 
 pub returns : goal.returns
 returns g c = record {

@@ -1,5 +1,5 @@
 -- The worlds that a stop may leave after steps from the world of a run are worlds of runs.
-use Rattle.operator.proofs.Prelude.{◌⊎◌, inl, inr, List, [], ◌∷◌, ◌++◌, refl, subst, World, IsWorld, nothing, Event, IsStep, Run, Bound, SameWorld, IsWithin, Ending, changed, unchanged, failed, left_by, ending_of, intended_world, world_by, next_world, bound_after, bound_of_run, all_left, can_make, leaves_one_change, reports_are_true, run_append, IsAmong, Work, takes, keeps, steps_of, bound_of_works}
+use Rattle.stops.proofs.Prelude.{◌⊎◌, inl, inr, ℕ, List, [], ◌∷◌, ◌++◌, refl, subst, World, IsWorld, nothing, Event, IsStep, Run, Bound, SameWorld, IsWithin, Ending, changed, unchanged, failed, left_by, ending_of, intended_world, world_by, next_world, bound_after, bound_of_run, all_left, can_make, leaves_one_change, reports_are_true, run_append, IsAmong, Work, takes, keeps, steps_of, bound_of_works}
 use Rattle.std.specs.List.{AllByRecursion}
 use Rattle.std.proofs.Math.Logic.{∥∥₁_elim}
 use Rattle.sqlite_wal.specs.Recovery.{Image}
@@ -7,7 +7,8 @@ use Rattle.model.specs.Laws.{IsHalfDone}
 use Rattle.tables.specs.Rows.{Tables}
 use Rattle.refinement.specs.Representation.{Represents}
 use Rattle.refinement.specs.Opening.{HoldsAmong}
-use Rattle.operator.specs.Reached.{IsReached, HoldsReached}
+use Rattle.reopened.specs.Opening.{HoldAmong}
+use Rattle.stops.specs.Reached.{IsReached, HoldReached, HoldsReached}
 
 -- each world of the bound is one of a run
 abbrev pub AreReached : Bound → Type 0
@@ -42,6 +43,12 @@ one_of t (world ∷ bound) all (inr there) = one_of t bound all.1 there
 -- files that hold one of these worlds
 pub reached_held : (image : Image) (bound : Bound) → AreReached bound → HoldsAmong image bound → HoldsReached image
 reached_held image bound all held =
+    ∥∥₁_elim held squash₁ (λ found. let one = one_of _ bound all found.2.3 in
+    ∣ (one.0, one.1, ∣ (found.0, found.1, (found.2.0, found.2.1, found.2.2, inl one.2)) ∣₁) ∣₁)
+
+pub reached_beside : (image : Image) (file : List ℕ) (bound : Bound) → AreReached bound → HoldAmong image file bound
+    → HoldReached image file
+reached_beside image file bound all held =
     ∥∥₁_elim held squash₁ (λ found. let one = one_of _ bound all found.2.3 in
     ∣ (one.0, one.1, ∣ (found.0, found.1, (found.2.0, found.2.1, found.2.2, inl one.2)) ∣₁) ∣₁)
 

@@ -9,6 +9,8 @@ pub enum ContentsCause {
     NotEmpty,
     /// Another program has it open.
     InUse,
+    /// It has a second name.
+    Linked,
     /// It ends before a content does.
     Short,
     /// The database says of two contents that they have bytes in common, or that they are of one upload.

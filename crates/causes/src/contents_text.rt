@@ -12,6 +12,7 @@ pub(crate) fn contents_text(cause: ContentsCause) -> &'static str {
             "this file has bytes, and the database is new: move it away, or put its database beside it"
         }
         ContentsCause::InUse => "another program has it open: end that program",
+        ContentsCause::Linked => "it has a second name, a hard link: remove one of the two",
         ContentsCause::Short => {
             "it is shorter than the database says: use copies of both files of one moment"
         }

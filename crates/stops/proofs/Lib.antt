@@ -1,0 +1,2 @@
+mod Prelude
+mod Reached
