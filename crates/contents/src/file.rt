@@ -86,6 +86,7 @@ pub fn sync<D: Disk>(disk: &mut D) -> Result<(), ContentsFault>
     ensures durable { OnOk result (Only (D.Disk.seen disk.new) (D.Disk.may_leave disk.new)) }
     ensures same { IsSameFile D.Disk disk.old disk.new }
     ensures usable { D.Disk.is_usable disk.new ≡ is_ok result }
+    ensures counted { OnOk result (D.Disk.faults disk.new ≡ D.Disk.faults disk.old) }
     ensures err { IfErr result (λ fault. FailsFor D.Disk fault ⊤ ⊤ ⊤ disk.old disk.new) }
 {
     if !disk.may_be_used() {

@@ -1,13 +1,19 @@
--- The staged uploads are removed, one after another.
-use Rattle.placed.proofs.Prelude.{◌≡◌, inl, inr, ℕ, ℤ, List, [], ◌∷◌, ◌++◌, ◌+◌, ◌<◌, length, take, slice_index_or, map, filter, Option, Some, None, refl, sym, ap, subst, ◌∙◌, AllByRecursion, IsAscending, moves_none, Upload, Chunk, Tables, is_place, is_staged, staged_with, settled, Remains, Ghosts, IsHonest, IsOpen, HasTables, Leaves, shown, Moves, AddsNothing, Makes, Reads, Ok, upload_number, UploadRow, Vec, view, without_found, without_staged}
-use Rattle.std.specs.Prelude.{◌⊎◌}
-use Rattle.sqlite_keyed.proofs.ListLemmas.{map-map}
+-- The staged uploads whose chunks are in rows are removed, one after another.
+use Rattle.placed.proofs.Prelude.{◌≡◌, inl, inr, ℕ, ℤ, Bool, List, [], ◌∷◌, ◌++◌, ◌+◌, ◌<◌, length, take, slice_index_or, map, filter, Option, Some, None, refl, sym, ap, subst, ◌∙◌, AllByRecursion, IsAscending, moves_none, Upload, Chunk, Tables, is_place, is_staged, staged_with, settled, Remains, Ghosts, IsHonest, IsOpen, HasTables, Leaves, shown, Moves, AddsNothing, Makes, Reads, Ok, upload_number, int_eq, UploadId, UploadRow, Vec, view, without_found, without_staged}
+use Rattle.std.specs.Prelude.{◌⊎◌, ◌||◌}
+use Rattle.std.specs.List.{list_any}
+use Rattle.sqlite_keyed.proofs.ListLemmas.{filter_same, map-map}
 use Rattle.std.proofs.lemmas.List.{map_more}
+use Rattle.std.proofs.lemmas.List.Sorted.{list_any-IsPermutation}
+use Rattle.tables.specs.Listing.{KeyFields, key_fields, read_key}
+use Rattle.tables.specs.declared.rows.ChunkKey.{ChunkKey}
 use Rattle.tables.specs.Staging.{AreUploadsOf, UploadFields, read_upload, upload_fields}
+use Rattle.store.specs.Content.{AreAllKeys}
 use Rattle.store.specs.Shown.{Fails}
 use Rattle.store.proofs.Moved.{nothing_none}
-use Rattle.placed.specs.Opening.{cleared, ClearsSome, LacksStaged, LeavesCleared, ShowsCleared, staged_ids, without_all}
+use Rattle.placed.specs.Opening.{ClearsSome, LacksStaged, LeavesCleared, ShowsCleared, chunked_ids, cleared, has_chunk, has_key, staged_ids, without_all}
 use Rattle.placed.proofs.Tracked.{HasSomeChunks, apart-kept, chunks-of-without-upload, every_chunk, places-left, places-of-chunks}
+use Rattle.placed.proofs.Settled.{settled_viewed}
 use Rattle.placed.proofs.Unstaged.{settled_cleared}
 use Rattle.placed.proofs.Views.{view-without}
 
@@ -61,32 +67,45 @@ view_step file id t = at (staged_with id t)
     at None = refl
     at (Some u) = view-without file [] t u.id
 
-view_all : (file : List ℕ) (ids : List ℤ) (t : Tables)
+pub view_all : (file : List ℕ) (ids : List ℤ) (t : Tables)
     → view file [] (without_all ids t) ≡ without_all ids (view file [] t)
 view_all file [] t = refl
 view_all file (id ∷ ids) t = view_all file ids (without_staged id t) ∙ ap (without_all ids) (view_step file id t)
 
-pub view_cleared : (file : List ℕ) (t : Tables) → view file [] (cleared t) ≡ cleared (view file [] t)
-unfolding view
-view_cleared file t = view_all file (staged_ids t.uploads) t
-
--- tables without staged uploads have no chunks of them
-pub settled_viewed : (file : List ℕ) (t : Tables) → settled (view file [] (cleared t)) ≡ view file [] (cleared t)
-settled_viewed file t =
-    ap settled (view_cleared file t) ∙ settled_cleared (view file [] t) ∙ sym (view_cleared file t)
+-- tables without the staged uploads whose chunks are in rows show no chunks of staged uploads
+pub cleared_settled : (file : List ℕ) (t : Tables) → settled (view file [] (cleared t)) ≡ view file [] (cleared t)
+cleared_settled file t = settled_viewed file (cleared t) (settled_cleared t)
 
 -- ---- the uploads that a call read
 
--- the ids of the rows that a call read
-abbrev pub read_ids : List UploadRow → List ℤ
-read_ids = map (λ (row : UploadRow). upload_number row.id)
-
-read_staged : (rows : List UploadRow) (us : List Upload) → AreUploadsOf rows (filter is_staged us)
-    → read_ids rows ≡ staged_ids us
+pub read_staged : (rows : List UploadRow) (us : List Upload) → AreUploadsOf rows (filter is_staged us)
+    → map (λ (row : UploadRow). upload_number row.id) rows ≡ staged_ids us
 read_staged rows us is =
     sym (map-map (λ (f : UploadFields). f.id) read_upload rows)
     ∙ ap (map (λ (f : UploadFields). f.id)) is
     ∙ map-map (λ (f : UploadFields). f.id) upload_fields (filter is_staged us)
+
+any_mapped : {A B : Type 0} (p : B → Bool) (f : A → B) (xs : List A) → list_any p (map f xs) ≡ list_any (λ x. p (f x)) xs
+any_mapped p f [] = refl
+any_mapped p f (x ∷ xs) = ap (λ b. p (f x) || b) (any_mapped p f xs)
+
+-- an upload has one of the keys exactly if one of the chunks is of it
+same_chunked : (keys : List ChunkKey) (t : Tables) → AreAllKeys keys t → (id : ℤ)
+    → has_key keys id ≡ has_chunk t.chunks id
+same_chunked keys t are id =
+    let of : KeyFields → Bool = λ f. int_eq f.upload id in
+    sym (any_mapped of read_key keys)
+    ∙ list_any-IsPermutation of (map read_key keys) (map key_fields t.chunks) are
+    ∙ any_mapped of key_fields t.chunks
+
+-- the ids of the uploads that have a key are those of the staged uploads whose chunks are in rows
+chunked : (rows : List UploadRow) (keys : List ChunkKey) (ids : List ℤ) (t : Tables)
+    → AreUploadsOf rows (filter is_staged t.uploads) → AreAllKeys keys t
+    → ids ≡ filter (has_key keys) (map (λ (row : UploadRow). upload_number row.id) rows) → ids ≡ chunked_ids t
+chunked rows keys ids t are all is =
+    is
+    ∙ filter_same (has_key keys) (has_chunk t.chunks) (same_chunked keys t all) _
+    ∙ ap (filter (has_chunk t.chunks)) (read_staged rows t.uploads are)
 
 -- ---- the calls
 
@@ -188,46 +207,57 @@ module _ {S : Type 0} (g : Ghosts S) where
           ∙ ap (without_staged id) (r.shows (p.moves.was_honest k) h (p.moves.was_open k o))
           ∙ sym (without_append ids (id ∷ []) (shown g old))
 
-  -- one more row that a call read
-  pub removes_next : (rows : List UploadRow) (index : ℕ) (row : UploadRow) (old mid new : S) → index < length rows
-      → row ≡ slice_index_or rows index row → Removes (read_ids (take index rows)) old mid
-      → Makes g (without_staged (upload_number row.id)) mid new → Removes (read_ids (take (index + 1) rows)) old new
-  removes_next rows index row old mid new less is r p =
-      let ids = read_ids (take index rows) in
+  -- one more id that a call found
+  pub removes_next : (found : List UploadId) (index : ℕ) (id : UploadId) (old mid new : S) → index < length found
+      → id ≡ slice_index_or found index id → Removes (map upload_number (take index found)) old mid
+      → Makes g (without_staged (upload_number id)) mid new → Removes (map upload_number (take (index + 1) found)) old new
+  removes_next found index id old mid new less is r p =
+      let ids = map upload_number (take index found) in
       subst (λ (l : List ℤ). Removes l old new)
-      (sym (map_more (λ (x : UploadRow). upload_number x.id) rows index row less
-      ∙ ap (λ (x : UploadRow). ids ++ upload_number x.id ∷ []) (sym is)))
-      (removes_then ids (upload_number row.id) old mid new r p)
+      (sym (map_more upload_number found index id less ∙ ap (λ (k : UploadId). ids ++ upload_number k ∷ []) (sym is)))
+      (removes_then ids (upload_number id) old mid new r p)
 
   -- a call that failed to remove one more
   pub removes_not : (ids : List ℤ) (id : ℤ) (old mid new : S) → Removes ids old mid
       → Fails g (without_staged id) mid new → ClearsSome g old new
   removes_not ids id old mid new r f = clears_then old mid new r.some (clears_not id mid new f)
 
-  -- those of all staged uploads, which a call found
-  module _ (rows : Vec UploadRow) (old mid new : S)
+  -- the ids of the staged uploads whose chunks are in rows, which two calls read
+  module _ (rows : Vec UploadRow) (keys : Vec ChunkKey) (old mid new : S)
       (found : Reads g old mid (Ok rows) (λ t found. AreUploadsOf found.items (filter is_staged t.uploads)))
-      (r : Removes (read_ids rows.items) mid new) where
-    ids_are : IsHonest g mid → HasTables g old → read_ids rows.items ≡ staged_ids (shown g old).uploads
-    ids_are k h = read_staged rows.items (shown g old).uploads (found.answers k h).1
+      (all : Reads g mid new (Ok keys) (λ t found. AreAllKeys found.items t)) (ids : List ℤ)
+      (is : ids ≡ filter (has_key keys.items) (map (λ (row : UploadRow). upload_number row.id) rows.items)) where
+    pub chunked_read : IsHonest g new → HasTables g old → IsOpen g old × (ids ≡ chunked_ids (shown g old))
+    chunked_read k h =
+        let k' = all.same.was_honest k in
+        let first = found.answers k' h in
+        let second = all.answers k (found.same.ready h) in (
+          first.0,
+          chunked rows.items keys.items ids (shown g old) first.1
+              (subst (AreAllKeys keys.items) (found.same.shows k' h second.0) second.1) is,
+        )
 
+  -- those that a call found were removed
+  module _ (ids : Vec UploadId) (old mid new : S)
+      (found : Reads g old mid (Ok ids) (λ t found. map upload_number found.items ≡ chunked_ids t))
+      (r : Removes (map upload_number ids.items) mid new) where
     pub removes_all : ShowsCleared g old new
     removes_all k h o =
         let k' = r.some.was_honest k in
         r.shows k (found.same.ready h) o
-        ∙ ap (without_all (read_ids rows.items)) (found.same.shows k' h (r.some.was_open k o))
-        ∙ ap (λ ids. without_all ids (shown g old)) (ids_are k' h)
+        ∙ ap (without_all (map upload_number ids.items)) (found.same.shows k' h (r.some.was_open k o))
+        ∙ ap (λ l. without_all l (shown g old)) (found.answers k' h).1
 
     pub leaves_all : LeavesCleared g old new
     leaves_all h k =
         let k' = r.some.was_honest k in
-        let by_ids = ap (λ ids. without_all ids (shown g old)) (ids_are k' h) in (
+        let by_ids = ap (λ l. without_all l (shown g old)) (found.answers k' h).1 in (
           (found.answers k' h).0,
           λ d t leaves. elim (r.left (found.same.ready h) k t leaves) [
             | inl none ↦ subst (λ (u : Tables). Remains u t)
-                (ap (λ ids. without_all ids (shown g old)) (sym none.0) ∙ by_ids)
+                (ap (λ l. without_all l (shown g old)) (sym none.0) ∙ by_ids)
                 (d.only (found.same.was_honest k') t (found.adds.outcomes k' t none.1))
             | inr some ↦ subst (λ (u : Tables). Remains u t)
-                (ap (without_all (read_ids rows.items)) (found.same.shows k' h some.0) ∙ by_ids) some.1
+                (ap (without_all (map upload_number ids.items)) (found.same.shows k' h some.0) ∙ by_ids) some.1
           ],
         )

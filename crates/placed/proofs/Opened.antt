@@ -1,19 +1,20 @@
 -- What is opened serves the places of the database.
-use Rattle.placed.proofs.Prelude.{◌≡◌, ◌≢◌, inl, ℕ, ℤ, ◌≤◌, List, [], length, refl, sym, ap, subst, ◌∙◌, IsTrue, All, AllByRecursion, IsAscending, all_weaker, Region, regions_of, HasContent, IsSameFile, Chunk, Tables, Remains, Ghosts, settled, IsHonest, IsOpen, HasTables, Leaves, shown, Moves, AddsNothing, Placed, content_in, pieces_at, view, OfOthers, AreStagedApart, IsStagedIn, IsReceived, IsPlace, IsServed, places_in, staged_of, AreHonest, IsPlaced, beside}
+use Rattle.placed.proofs.Prelude.{◌≡◌, ◌≢◌, inl, ℕ, ℤ, ◌≤◌, List, [], length, None, refl, sym, ap, subst, ◌∙◌, IsTrue, All, AllByRecursion, IsAscending, all_weaker, Region, regions_of, HasContent, IsAlteredBy, IsSameFile, Chunk, Tables, Remains, Ghosts, settled, IsHonest, IsOpen, HasTables, Leaves, shown, Moves, AddsNothing, Placed, content_in, pieces_at, view, OfOthers, AreStagedApart, IsStagedIn, IsReceived, IsPlace, IsServed, places_in, staged_of, AreHonest, IsPlaced, beside}
 use Rattle.std.proofs.lemmas.List.Elements.{All-contains}
 use Rattle.sqlite_disk.specs.Disk.{Only}
 use Rattle.sqlite_disk.specs.declared.Disk as disk
-use Rattle.sqlite_keyed.proofs.ListLemmas.{all_of}
+use Rattle.contents.specs.Files.{KeepsRegions}
 use Rattle.contents.specs.Regions.{end_of}
 use Rattle.store.specs.Shown.{IsDurable, IsSafe}
 use Rattle.placed.specs.Kept.{ArePlacesApart, IsBeside, IsInFile}
-use Rattle.placed.specs.Opening.{AreTaken, ClearsSome, IsDurableIfOpen, IsTaken, LeavesCleared, ShowsCleared, cleared, staged_ids}
-use Rattle.placed.proofs.Both.{marked_view}
+use Rattle.placed.specs.Opening.{AreTaken, ClearsSome, IsDurableIfOpen, IsTaken, LeavesCleared, ShowsCleared, chunked_ids, cleared}
+use Rattle.placed.proofs.Both.{alike, marked_view}
 use Rattle.placed.proofs.Bytes.{has_content}
-use Rattle.placed.proofs.Cleared.{apart_without, clears_none, clears_then, places_without, settled_viewed, view_cleared}
+use Rattle.placed.proofs.Cleared.{apart_without, cleared_settled, clears_none, clears_then, places_without}
+use Rattle.placed.proofs.Freeing.{place_kept, place_pieces}
 use Rattle.placed.proofs.Settled.{settled-left}
 use Rattle.placed.proofs.Tracked.{places-remain}
-use Rattle.placed.proofs.Views.{view-normal}
+use Rattle.placed.proofs.Views.{view-normal, view-same}
 
 -- ---- the store that is opened
 
@@ -26,57 +27,75 @@ same_then d file mid new one two = record {
   clean = λ k. one.clean (two.clean k);
 }
 
--- what the calls of an opening did: the file was synced, the places of the database were read, and staged uploads were removed
-pub record IsMadeOf {T D : Type 0} (g : Ghosts T) (d : disk.Ghosts D) (rows read : T) (file synced : D) (s : Placed T D) : Type 0 where
+-- what the calls of an opening did: the file was synced, the places of the database were read, staged uploads were removed,
+-- and the file was cut
+pub record IsMadeOf {T D : Type 0} (g : Ghosts T) (d : disk.Ghosts D) (rows read : T) (file synced whole : D) (s : Placed T D) : Type 0 where
   pub empty : staged_of s ≡ []
   pub first : IsSameFile d file synced
   pub durable : Only (d.seen synced) (d.may_leave synced)
-  pub then : IsSameFile d synced s.disk
+  pub then : IsSameFile d synced whole
+  pub cut : IsAlteredBy d (KeepsRegions (regions_of s.regions)) whole s.disk
   pub still : Moves g (λ t. t) rows read
   pub adds : AddsNothing g rows read
   pub taken : IsHonest g read → HasTables g rows
       → IsOpen g rows × AreTaken (regions_of s.regions) (places_in (shown g rows))
-  pub within : IsTrue (d.is_clean s.disk) → All (λ region. end_of region ≤ length (d.seen synced)) (regions_of s.regions)
+  pub within : IsTrue (d.is_clean whole) → All (λ region. end_of region ≤ length (d.seen synced)) (regions_of s.regions)
   pub some : ClearsSome g read s.rows
   pub all : ShowsCleared g read s.rows
   pub left : LeavesCleared g read s.rows
 
-module _ {T D : Type 0} (g : Ghosts T) (d : disk.Ghosts D) (rows read : T) (file synced : D) (s : Placed T D)
-    (by : IsMadeOf g d rows read file synced s) where
+module _ {T D : Type 0} (g : Ghosts T) (d : disk.Ghosts D) (rows read : T) (file synced whole : D) (s : Placed T D)
+    (by : IsMadeOf g d rows read file synced whole s) where
   open by use {empty, taken}
 
-  same_bytes : d.seen s.disk ≡ d.seen file
+  same_bytes : d.seen whole ≡ d.seen file
   same_bytes = by.then.seen ∙ by.first.seen
 
-  only : Only (d.seen s.disk) (d.may_leave s.disk)
+  only : Only (d.seen whole) (d.may_leave whole)
   only left may = by.durable left (by.then.stop left may) ∙ sym by.then.seen
 
-  within : IsTrue (d.is_clean s.disk) → All (λ region. end_of region ≤ length (d.seen s.disk)) (regions_of s.regions)
+  within : IsTrue (d.is_clean whole) → All (λ region. end_of region ≤ length (d.seen whole)) (regions_of s.regions)
   within clean =
       subst (λ (bytes : List ℕ). All (λ region. end_of region ≤ length bytes) (regions_of s.regions)) (sym by.then.seen)
       (by.within clean)
 
-  -- a place of the store
+  -- a place of the store before the file is cut
+  abbrev WasServed : Chunk → Type 0
+  WasServed = IsPlace d whole s.regions (staged_of s)
+
+  -- and after that
   abbrev Serves : Chunk → Type 0
   Serves = IsPlace d s.disk s.regions (staged_of s)
 
-  in_file : (region : Region) → end_of region ≤ length (d.seen s.disk) → IsInFile d s.disk region
+  in_file : (region : Region) → end_of region ≤ length (d.seen whole) → IsInFile d whole region
   in_file region fits = record {
-    content = content_in (d.seen s.disk) region;
-    seen = has_content (d.seen s.disk) region fits;
-    left = λ left may. subst (λ bytes. HasContent bytes region (content_in (d.seen s.disk) region)) (sym (only left may))
-        (has_content (d.seen s.disk) region fits);
+    content = content_in (d.seen whole) region;
+    seen = has_content (d.seen whole) region fits;
+    left = λ left may. subst (λ bytes. HasContent bytes region (content_in (d.seen whole) region)) (sym (only left may))
+        (has_content (d.seen whole) region fits);
   }
 
-  serves : IsTrue (d.is_clean s.disk) → (c : Chunk) → IsTaken (regions_of s.regions) c → Serves c
-  serves clean c it = record {
+  was_served : IsTrue (d.is_clean whole) → (c : Chunk) → IsTaken (regions_of s.regions) c → WasServed c
+  was_served clean c it = record {
     region = it.region;
     means = it.named.means;
     some = it.named.is.some;
-    kept = in_file it.region (All-contains (λ region. end_of region ≤ length (d.seen s.disk)) (regions_of s.regions) it.region (within clean) it.used);
+    kept = in_file it.region (All-contains (λ region. end_of region ≤ length (d.seen whole)) (regions_of s.regions) it.region (within clean) it.used);
     used = it.used;
     apart = subst (AllByRecursion _) (sym empty) tt;
   }
+
+  serves : IsTrue (d.is_clean s.disk) → (c : Chunk) → IsTaken (regions_of s.regions) c → Serves c
+  serves clean c it =
+      place_kept d whole s.disk s.regions s.regions None refl by.cut (staged_of s) c (was_served (by.cut.clean clean) c it)
+      (λ r _. tt)
+
+  -- the file has the pieces that it had
+  same_pieces : IsTrue (d.is_clean s.disk) → (c : Chunk) → IsTaken (regions_of s.regions) c
+      → pieces_at (d.seen s.disk) c ≡ pieces_at (d.seen whole) c
+  same_pieces clean c it =
+      place_pieces d whole s.disk s.regions s.regions None refl by.cut (staged_of s) c (was_served (by.cut.clean clean) c it)
+      (λ r _. tt)
 
   -- but for some staged uploads the database is as it was
   cleared_some : ClearsSome g rows s.rows
@@ -95,7 +114,7 @@ module _ {T D : Type 0} (g : Ghosts T) (d : disk.Ghosts D) (rows read : T) (file
         ∙ ap cleared (by.still.shows (by.some.was_honest k) h (by.some.was_open k o))
 
     abbrev ids : List ℤ
-    ids = staged_ids before.uploads
+    ids = chunked_ids before
 
     -- the places that are left are those of the store
     serves_cleared : AreHonest g d s → AllByRecursion Serves (places_in (cleared before))
@@ -115,13 +134,20 @@ module _ {T D : Type 0} (g : Ghosts T) (d : disk.Ghosts D) (rows read : T) (file
           uploads = subst (AllByRecursion (IsStagedIn (cleared before))) (sym empty) tt;
         }
 
+    same_view : AreHonest g d s → view (d.seen s.disk) [] (cleared before) ≡ view (d.seen file) [] (cleared before)
+    same_view k =
+        view-same (d.seen whole) (d.seen s.disk) [] (cleared before)
+        (places_without (λ c. pieces_at (d.seen s.disk) c ≡ pieces_at (d.seen whole) c) ids before
+        (all_weaker (IsTaken (regions_of s.regions)) _ (same_pieces k.1.0) (places_in before)
+        (taken (by.some.was_honest k.0) h).1.each)) tt
+        ∙ ap (λ bytes. view bytes [] (cleared before)) same_bytes
+
     pub opened_shown : AreHonest g d s → IsOpen g s.rows
-        → view (d.seen s.disk) (staged_of s) (shown g s.rows) ≡ cleared (view (d.seen file) [] before)
+        → view (d.seen s.disk) (staged_of s) (shown g s.rows) ≡ view (d.seen file) [] (cleared before)
     opened_shown k o =
         ap (λ l. view (d.seen s.disk) l (shown g s.rows)) empty
-        ∙ ap (λ bytes. view bytes [] (shown g s.rows)) same_bytes
-        ∙ ap (view (d.seen file) []) (shows k.0 o)
-        ∙ view_cleared (d.seen file) before
+        ∙ ap (view (d.seen s.disk) []) (shows k.0 o)
+        ∙ same_view k
 
     pub opened_was : IsHonest g s.rows → IsOpen g rows
     opened_was k = (taken (by.some.was_honest k) h).0
@@ -164,16 +190,14 @@ module _ {T D : Type 0} (g : Ghosts T) (d : disk.Ghosts D) (rows read : T) (file
       }
 
       pub opened_left : AreHonest g d s → (t : Tables) → Leaves (beside g d) s t
-          → t ≡ cleared (view (d.seen file) [] before)
+          → t ≡ view (d.seen file) [] (cleared before)
       opened_left k t leaves =
           let it = leaves.0 in
-          let bytes = d.seen file in
           it.is
-          ∙ ap (λ left. settled (view left [] it.rows)) (only it.file it.by_file ∙ same_bytes)
-          ∙ settled-left bytes bytes [] (cleared before) it.rows (remains k.0 it.rows it.by_rows) tt
-          (all_of (λ (c : Chunk). pieces_at bytes c ≡ pieces_at bytes c) (λ c. refl) (places_in (cleared before)))
-          ∙ settled_viewed bytes before
-          ∙ view_cleared bytes before
+          ∙ settled-left (d.seen s.disk) it.file [] (cleared before) it.rows (remains k.0 it.rows it.by_rows) tt
+          (alike g d s it.file it.by_file (places_in (cleared before)) (serves_cleared k))
+          ∙ ap settled (same_view k)
+          ∙ cleared_settled (d.seen file) before
 
       pub opened_safe : AreHonest g d s → IsSafe (beside g d) s
       opened_safe k = (cleared_some.adds h).safe k.0 ((durable k.0).safe (cleared_some.was_honest k.0))

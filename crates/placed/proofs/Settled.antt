@@ -105,3 +105,16 @@ settled-left file left staged u u' (inr same) there kept =
     ∙ settled_view left [] (settled u) tt
     ∙ ap (with_arranged u) (left_again u.uploads left u.chunks ∙ left_same u.uploads file left u.chunks kept)
     ∙ sym (settled_view file staged u there)
+
+-- tables that have no chunks of staged uploads show none
+pub settled_viewed : (file : List ℕ) (t : Tables) → settled t ≡ t → settled (view file [] t) ≡ view file [] t
+unfolding view
+settled_viewed file t none = settled_view file [] t tt ∙ ap (with_arranged t) all_left
+  where
+    kept : (p : Chunk → Bool) → filter (stays t.uploads) (filter p t.chunks) ≡ filter p t.chunks
+    kept p = filter_swap (stays t.uploads) p t.chunks ∙ ap (λ (u : Tables). filter p u.chunks) none
+
+    all_left : left_over t.uploads file t.chunks ≡ all_chunks file [] t.chunks
+    all_left =
+        ap₂ ◌++◌ (kept is_piece)
+        (ap (flat_map (pieces_at file)) (kept is_place) ∙ sym (append-nil (flat_map (pieces_at file) (filter is_place t.chunks))))

@@ -1,21 +1,26 @@
 -- A store over a database that names places in its file is opened.
-use Rattle.std.specs.Prelude.{◌≡◌, ◌≢◌, ◌≤◌, ⊤, ℕ, ℤ, List, [], ◌∷◌, map, filter, length, Some, All, Contains, IsTrue}
-use Rattle.std.specs.List.{AllByRecursion}
+use Rattle.std.specs.Prelude.{◌≡◌, ◌⊎◌, ◌≢◌, ◌≤◌, ⊤, ℕ, ℤ, Bool, List, [], ◌∷◌, map, filter, length, Some, All, Contains, IsTrue}
+use Rattle.std.specs.List.{AllByRecursion, list_any}
+use Rattle.std.specs.Ordering.{int_eq}
 use Rattle.sqlite_trees.specs.Tree.{IsAscending}
+use Rattle.sqlite_disk.specs.Disk.{MoreFaults}
 use Rattle.sqlite_disk.specs.declared.Disk as disk
 use Rattle.contents.specs.declared.region.Region.{Region}
-use Rattle.contents.specs.Regions.{end_of, largest_end}
+use Rattle.contents.specs.InUse.{regions_of}
+use Rattle.contents.specs.Regions.{IsLastEnd, end_of, largest_end}
 use Rattle.contents.specs.Files.{IsSameFile}
 use Rattle.tables.specs.Rows.{Chunk, Upload, Tables}
-use Rattle.tables.specs.Staging.{without_staged}
-use Rattle.tables.specs.Statements.{is_staged}
+use Rattle.tables.specs.Staging.{upload_number, without_staged}
+use Rattle.tables.specs.Statements.{is_of, is_staged}
 use Rattle.store.specs.declared.state.State.{Ghosts}
 use Rattle.store.specs.Normal.{Remains}
 use Rattle.store.specs.Shown.{IsDurable, IsHonest, IsOpen, HasTables, Leaves, Moves, AddsAny, AddsNothing, shown}
 use Rattle.placed.specs.declared.fault.PlaceFault.{PlaceFault}
 use Rattle.placed.specs.declared.fault.PlaceFault.TheVariants.{Unreadable, Overlapping, Short, Store, Contents}
+use Rattle.tables.specs.declared.rows.ChunkKey.{ChunkKey}
 use Rattle.tables.specs.declared.rows.NumberedChunk.{NumberedChunk}
 use Rattle.placed.specs.Places.{region_in}
+use Rattle.placed.specs.declared.placed.Placed.{Placed}
 use Rattle.placed.specs.Kept.{ArePlacesApart, places_in}
 
 -- ---- regions
@@ -89,14 +94,26 @@ pub record RefusesPlaces {T D : Type 0} (g : Ghosts T) (d : disk.Ghosts D) (rows
 abbrev pub staged_ids : List Upload → List ℤ
 staged_ids uploads = map (λ (u : Upload). u.id) (filter is_staged uploads)
 
+-- one of the chunks is of this upload
+abbrev pub has_chunk : List Chunk → ℤ → Bool
+has_chunk chunks id = list_any (is_of id) chunks
+
+-- one of the keys is of this upload
+abbrev pub has_key : List ChunkKey → ℤ → Bool
+has_key keys id = list_any (λ (k : ChunkKey). int_eq (upload_number k.upload) id) keys
+
+-- the ids of the staged uploads whose chunks are in rows
+abbrev pub chunked_ids : Tables → List ℤ
+chunked_ids t = filter (has_chunk t.chunks) (staged_ids t.uploads)
+
 -- the tables without the staged uploads that have these ids, and without their chunks
 abbrev pub without_all : List ℤ → Tables → Tables
 without_all [] t = t
 without_all (id ∷ ids) t = without_all ids (without_staged id t)
 
--- the tables without the staged uploads and their chunks
+-- the tables without the staged uploads whose chunks are in rows, and without these
 abbrev pub cleared : Tables → Tables
-cleared t = without_all (staged_ids t.uploads) t
+cleared t = without_all (chunked_ids t) t
 
 -- the second tables are the first without some of the staged uploads
 abbrev pub LacksStaged : Tables → Tables → Type 0
@@ -123,6 +140,10 @@ module _ {S : Type 0} (g : Ghosts S) where
   abbrev pub LeavesCleared : S → S → Type 0
   LeavesCleared old new = HasTables g old → IsHonest g new
       → IsOpen g old × (IsDurable g old → (t : Tables) → Leaves g new t → Remains (cleared (shown g old)) t)
+
+-- the file ends where the last place does, unless a call of it failed
+abbrev pub IsCutFrom : {T D : Type 0} → disk.Ghosts D → (file : D) → Placed T D → Type 0
+IsCutFrom d file s = IsLastEnd (regions_of s.regions) (length (d.seen s.disk)) ⊎ MoreFaults (d.faults file) (d.faults s.disk)
 
 -- the call ended with a database that is as it was, but for some staged uploads, and with the same file
 pub record HasClosed {T D : Type 0} (g : Ghosts T) (d : disk.Ghosts D) (rows : T) (file : D) : Type 0 where

@@ -1,6 +1,6 @@
 //! Stores over a database that names places in the file are opened.
 
-ghost use Rattle.std.specs.Prelude.{◌≡◌, ◌≢◌, ◌≤◌, length, map, [], All, IsTrue, MatchBool, IfOk, IfErr, IfSome, IfNone, OnOk, OnErr};
+ghost use Rattle.std.specs.Prelude.{◌≡◌, ◌≢◌, ◌≤◌, length, map, filter, [], All, IsTrue, MatchBool, IfOk, IfErr, IfSome, IfNone, OnOk, OnErr};
 ghost use Rattle.std.specs.List.Sorted.{IsPermutation};
 ghost use Rattle.sqlite_trees.specs.Tree.{IsAscending};
 ghost use Rattle.contents.specs.Regions.{end_of};
@@ -9,29 +9,30 @@ ghost use Rattle.contents.specs.Files.{IsSameFile};
 ghost use Rattle.contents.specs.declared.region.Region.{Region};
 ghost use Rattle.tables.specs.Rows.{Tables};
 ghost use Rattle.tables.specs.Staging.{upload_number};
-ghost use Rattle.store.specs.Shown.{IsHonest, IsOpen, IsSafe, IsDurable, HasTables, Leaves, Moves, AddsNothing, shown};
+ghost use Rattle.store.specs.Shown.{IsHonest, IsOpen, IsSafe, IsDurable, HasTables, Leaves, Moves, Reads, AddsNothing, shown};
 ghost use Rattle.placed.specs.Kept.{AreSeparate, places_in};
-ghost use Rattle.placed.specs.Opening.{AreGood, AreNamed, AreTaken, ClearsSome, HasClosed, IsDurableIfOpen, IsNamed, IsOfPlaces, IsRegion, LeavesCleared, RefusesPlaces, ShowsCleared, cleared};
+ghost use Rattle.placed.specs.Opening.{AreGood, AreNamed, AreTaken, ClearsSome, HasClosed, IsCutFrom, IsDurableIfOpen, IsNamed, IsOfPlaces, IsRegion, LeavesCleared, RefusesPlaces, ShowsCleared, chunked_ids, cleared, has_key};
 ghost use Rattle.placed.specs.Placed.{beside};
 ghost use Rattle.placed.specs.View.{view};
 
 use crate::fault::PlaceFault;
 use crate::place::{PLACE_NUMBER, region_in};
 use crate::placed::Placed;
-use contents::{ContentsFault, LARGEST_END, Region, Regions, sync};
+use contents::{ContentsFault, LARGEST_END, Region, Regions, sync, trim};
 use sqlite_disk::Disk;
 use std::alloc::{AllocError, Global};
-use store::{Numbered, Store};
-use tables::{NumberedChunk, StoreFault};
+use store::{Listed, Numbered};
+use tables::{ChunkKey, NumberedChunk, StoreFault, UploadId, UploadRow};
 
-impl<T: Numbered + Drop, D: Disk + Drop> Placed<T, D> {
-    /// Opens a store over a database that may name places in the file, and removes its staged uploads. A database
-    /// without any is not written.
+impl<T: Listed + Numbered + Drop, D: Disk + Drop> Placed<T, D> {
+    /// Opens a store over a database that may name places in the file. Staged uploads whose chunks are in rows, as
+    /// another program leaves them, are removed; a database without any is not written. The file is cut after the last
+    /// place.
     ///
     /// # Errors
     ///
     /// `Unreadable`, `Overlapping` or `Short` if the places of the database are not those of contents in this file: the
-    /// database was not written then. `Store` or `Contents` if a call failed: staged uploads may be removed.
+    /// database was not written then. `Store` or `Contents` if a call failed: such staged uploads may be removed.
     /// The database and the file are closed.
     pub fn open(alloc: Global, mut rows: T, mut disk: D) -> Result<Placed<T, D>, PlaceFault>
         ensures honest { IfOk result (λ s. IsHonest (beside T.State D.Disk) s
@@ -42,14 +43,15 @@ impl<T: Numbered + Drop, D: Disk + Drop> Placed<T, D> {
             → HasTables (beside T.State D.Disk) s) }
         ensures shown { IfOk result (λ s. HasTables T.State rows → IsHonest (beside T.State D.Disk) s
             → IsOpen (beside T.State D.Disk) s → shown (beside T.State D.Disk) s
-            ≡ cleared (view (D.Disk.seen disk) [] (shown T.State rows))) }
+            ≡ view (D.Disk.seen disk) [] (cleared (shown T.State rows))) }
         ensures left { IfOk result (λ s. HasTables T.State rows → IsDurableIfOpen T.State rows
             → IsHonest (beside T.State D.Disk) s → (t : Tables) → Leaves (beside T.State D.Disk) s t
-            → t ≡ cleared (view (D.Disk.seen disk) [] (shown T.State rows))) }
+            → t ≡ view (D.Disk.seen disk) [] (cleared (shown T.State rows))) }
         ensures durable { IfOk result (λ s. HasTables T.State rows → IsDurableIfOpen T.State rows
             → IsOpen (beside T.State D.Disk) s → IsDurable (beside T.State D.Disk) s) }
         ensures safe { IfOk result (λ s. HasTables T.State rows → IsDurableIfOpen T.State rows
             → IsHonest (beside T.State D.Disk) s → IsSafe (beside T.State D.Disk) s) }
+        ensures cut { IfOk result (IsCutFrom D.Disk disk) }
         ensures faults { IfErr result (λ fault. IsOfPlaces fault
             → RefusesPlaces T.State D.Disk rows disk) }
         ensures ended { OnErr result (HasClosed T.State D.Disk rows disk) }
@@ -57,6 +59,8 @@ impl<T: Numbered + Drop, D: Disk + Drop> Placed<T, D> {
         sync(&mut disk)?;
         let regions = read_places(alloc, &mut rows, &mut disk)?;
         clear_staged(alloc, &mut rows)?;
+        // A file that cannot be cut is only longer than it needs to be.
+        let _ = trim(&mut disk, &regions);
         Ok(Placed {
             rows,
             disk,
@@ -69,21 +73,52 @@ impl<T: Numbered + Drop, D: Disk + Drop> Placed<T, D> {
     }
 }
 
-/// Removes the staged uploads and their chunks. If nothing is staged nothing is written.
+/// Removes the staged uploads whose chunks are in rows, with these. If there are none nothing is written.
 ///
 /// # Errors
 ///
 /// `Refused` or `Memory`. Some of them may be removed.
-pub(crate) fn clear_staged<T: Store>(alloc: Global, rows: &mut T) -> Result<(), StoreFault>
+pub(crate) fn clear_staged<T: Listed>(alloc: Global, rows: &mut T) -> Result<(), StoreFault>
     ensures all { OnOk result (ShowsCleared T.State rows.old rows.new) }
     ensures left { OnOk result (LeavesCleared T.State rows.old rows.new) }
     ensures some { ClearsSome T.State rows.old rows.new }
 {
-    let staged = rows.staged_uploads(alloc)?;
-    for upload in &staged {
-        rows.remove_upload(upload.id)?;
+    let chunked = chunked_uploads(alloc, rows)?;
+    for id in &chunked {
+        rows.remove_upload(*id)?;
     }
     Ok(())
+}
+
+/// The staged uploads whose chunks are in rows, in rising ids.
+fn chunked_uploads<T: Listed>(alloc: Global, rows: &mut T) -> Result<Vec<UploadId>, StoreFault>
+    ensures { Reads T.State rows.old rows.new result
+        (λ t found. map upload_number found.items ≡ chunked_ids t) }
+{
+    let staged = rows.staged_uploads(alloc)?;
+    if staged.is_empty() {
+        return Ok(Vec::new(alloc));
+    }
+    let keys = rows.chunk_keys(alloc)?;
+    Ok(ids_in(alloc, &staged, &keys)?)
+}
+
+/// The ids of these uploads that have chunks with these keys.
+fn ids_in(
+    alloc: Global,
+    uploads: &[UploadRow],
+    keys: &[ChunkKey],
+) -> Result<Vec<UploadId>, AllocError>
+    ensures { IfOk result (λ ids. map upload_number ids.items
+        ≡ filter (has_key keys.now) (map (λ row. upload_number row.id) uploads.now)) }
+{
+    let mut ids = Vec::new(alloc);
+    for upload in uploads {
+        if keys.iter().any(|key| key.upload == upload.id) {
+            ids.push(upload.id).map_err(AllocError::from)?;
+        }
+    }
+    Ok(ids)
 }
 
 /// The regions that the rows of a database name, if each is one of bytes of the file, and no two rows have a byte or an
@@ -97,6 +132,8 @@ pub(crate) fn read_places<T: Numbered, D: Disk>(
     ensures still { Moves T.State (λ t. t) rows.old rows.new }
     ensures adds { AddsNothing T.State rows.old rows.new }
     ensures same { IsSameFile D.Disk disk.old disk.new }
+    ensures usable { OnOk result (IsTrue (D.Disk.is_usable disk.new)) }
+    ensures counted { OnOk result (D.Disk.faults disk.new ≡ D.Disk.faults disk.old) }
     ensures taken { IfOk result (λ regions. IsHonest T.State rows.new → HasTables T.State rows.old
         → IsOpen T.State rows.old
         × AreTaken (regions_of regions) (places_in (shown T.State rows.old))) }

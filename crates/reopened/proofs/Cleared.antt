@@ -1,5 +1,5 @@
--- Tables without their staged uploads represent the world that they represent without the chunks of these.
-use Rattle.std.proofs.Common.{◌≡◌, ℤ, Bool, true, false, not, ◌&&◌, List, [], ◌∷◌, find, Option, Some, None, is_some, refl, sym, ap, subst, ◌∙◌}
+-- Tables without the staged uploads whose chunks are in rows represent the world that they represent without these chunks.
+use Rattle.std.proofs.Common.{◌≡◌, ℕ, ℤ, Bool, true, false, not, ◌&&◌, List, [], ◌∷◌, find, Option, Some, None, is_some, refl, sym, ap, subst, ◌∙◌}
 use Rattle.std.specs.Ordering.{int_eq}
 use Rattle.sqlite_keyed.specs.Lists.{delete_where}
 use Rattle.sqlite_keyed.proofs.KeyedLemmas.{same_int}
@@ -11,8 +11,9 @@ use Rattle.tables.specs.Rows.{Chunk, Upload, Tables}
 use Rattle.tables.specs.Staging.{staged_with, without_found, without_staged, without_upload}
 use Rattle.tables.specs.Statements.{is_of, is_staged, is_staged_with, is_upload, without_chunks, without_row}
 use Rattle.store.specs.Normal.{is_of_staged, settled}
-use Rattle.placed.specs.Opening.{cleared, staged_ids, without_all}
-use Rattle.placed.proofs.Unstaged.{settled_cleared}
+use Rattle.placed.specs.Opening.{chunked_ids, cleared, without_all}
+use Rattle.placed.specs.View.{view}
+use Rattle.placed.proofs.Cleared.{cleared_settled, view_all}
 use Rattle.refinement.specs.Representation.{Represents}
 use Rattle.refinement.proofs.Withdrawn.{each_left, filters_meet, not_is, staged_withdrawn}
 
@@ -59,7 +60,10 @@ withdrawn_all : (ids : List ℤ) (t : Tables) (world : World) → Represents t w
 withdrawn_all [] t world r = r
 withdrawn_all (id ∷ ids) t world r = withdrawn_all ids (without_staged id t) world (staged_withdrawn t world id r)
 
-pub cleared_represented : (t : Tables) (world : World) → Represents (settled t) world → Represents (cleared t) world
-cleared_represented t world r =
-    let ids = staged_ids t.uploads in
-    subst (λ (u : Tables). Represents u world) (sym (settled_all ids t) ∙ settled_cleared t) (withdrawn_all ids (settled t) world r)
+pub cleared_represented : (file : List ℕ) (t : Tables) (world : World) → Represents (settled (view file [] t)) world
+    → Represents (view file [] (cleared t)) world
+cleared_represented file t world r =
+    let ids = chunked_ids t in
+    subst (λ (u : Tables). Represents u world)
+    (sym (settled_all ids (view file [] t)) ∙ ap settled (sym (view_all file ids t)) ∙ cleared_settled file t)
+    (withdrawn_all ids (settled (view file [] t)) world r)

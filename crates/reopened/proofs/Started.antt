@@ -36,7 +36,7 @@ use Rattle.reopened.proofs.Cleared.{cleared_represented}
 -- ---- the tables of a new database
 
 fresh_represented : (file : List ℕ) (schema : Schema)
-    → Represents (cleared (view file [] (normal (fresh version_three schema)))) nothing
+    → Represents (view file [] (cleared (normal (fresh version_three schema)))) nothing
 unfolding view
 fresh_represented file schema = record {
   meta = refl;
@@ -108,9 +108,9 @@ module _ {S : Type 0} (g : trees.Ghosts S) (old mid : Store S) (a : AcceptsPlace
     pub was_open : HasTables (alone g) mid → IsHonest (beside (alone g) d) s → IsOpen (alone g) mid
     pub tables : HasTables (alone g) mid → IsDurableIfOpen (alone g) mid → HasTables (beside (alone g) d) s
     pub shows : HasTables (alone g) mid → IsHonest (beside (alone g) d) s → IsOpen (beside (alone g) d) s
-        → shown (beside (alone g) d) s ≡ cleared (view (d.seen file) [] (shown (alone g) mid))
+        → shown (beside (alone g) d) s ≡ view (d.seen file) [] (cleared (shown (alone g) mid))
     pub left : HasTables (alone g) mid → IsDurableIfOpen (alone g) mid → IsHonest (beside (alone g) d) s
-        → (t : Tables) → Leaves (beside (alone g) d) s t → t ≡ cleared (view (d.seen file) [] (shown (alone g) mid))
+        → (t : Tables) → Leaves (beside (alone g) d) s t → t ≡ view (d.seen file) [] (cleared (shown (alone g) mid))
     pub safe : HasTables (alone g) mid → IsDurableIfOpen (alone g) mid → IsHonest (beside (alone g) d) s
         → IsSafe (beside (alone g) d) s
 
@@ -126,7 +126,7 @@ module _ {S : Type 0} (g : trees.Ghosts S) (old mid : Store S) (a : AcceptsPlace
 
     is_at : (world : World) → IsWorld world
         → (database.IsHonest g mid → database.IsOpen g mid
-        → Represents (cleared (view (d.seen file) [] (normal (database.shown g mid)))) world)
+        → Represents (view (d.seen file) [] (cleared (normal (database.shown g mid)))) world)
         → IsAt (beside (alone g) d) s world
     is_at world laws is = record {
       holds = record {
@@ -141,20 +141,20 @@ module _ {S : Type 0} (g : trees.Ghosts S) (old mid : Store S) (a : AcceptsPlace
     }
       where
         now : IsHonest (beside (alone g) d) s
-            → Represents (cleared (view (d.seen file) [] (normal (database.shown g mid)))) world
+            → Represents (view (d.seen file) [] (cleared (normal (database.shown g mid)))) world
         now k = is (it.honest k).0 (it.was_open ready k)
 
     pub is_new : HasNoTable g old → IsAt (beside (alone g) d) s nothing
     is_new none = is_at nothing (makes_world [] nothing refl) (λ k o.
-        subst (λ (t : Tables). Represents (cleared (view (d.seen file) [] (normal t))) nothing) (sym (shows_fresh none k o))
+        subst (λ (t : Tables). Represents (view (d.seen file) [] (cleared (normal t))) nothing) (sym (shows_fresh none k o))
         (fresh_represented (d.seen file) _))
 
     pub is_found : HasOurs g version_three old → (world : World) → IsWorld world
         → Represents (settled (view (d.seen file) [] (normal (database.shown g old)))) world
         → IsAt (beside (alone g) d) s world
     is_found ours world laws was = is_at world laws (λ k o.
-        subst (λ (t : Tables). Represents (cleared (view (d.seen file) [] (normal t))) world) (sym (shows_ours ours k o))
-        (cleared_represented (view (d.seen file) [] (normal (database.shown g old))) world was))
+        subst (λ (t : Tables). Represents (view (d.seen file) [] (cleared (normal t))) world) (sym (shows_ours ours k o))
+        (cleared_represented (d.seen file) (normal (database.shown g old)) world was))
 
     one_of : HasOurs g version_three old → (bound : Bound)
         → IsAmong (settled (view (d.seen file) [] (normal (database.shown g old)))) bound

@@ -62,16 +62,16 @@ module _ {S : Type 0} (g : trees.Ghosts S) where
     pub unknown : IsHonest g ended → fault ≡ UnknownSchema → IsForeign g version_three rows
 
 module _ {S D : Type 0} (g : trees.Ghosts S) (d : disk.Ghosts D) where
-  -- the database was accepted, and the store shows what that has, with this file and without the staged uploads; a stop leaves
-  -- only this
+  -- the database was accepted, and the store shows what that has, with this file and without the staged uploads whose chunks
+  -- are in rows; a stop leaves only this
   pub record IsServedBy (rows : tables.Store S) (file : D) (s : Placed (tables.Store S) D) : Type 0 where
     pub accepted : tables.Store S
     pub accepts : AcceptsPlaces g rows accepted
     pub was_open : store.IsHonest (beside (alone g) d) s → IsOpen g accepted
     pub shows : store.IsHonest (beside (alone g) d) s → store.IsOpen (beside (alone g) d) s
-        → store.shown (beside (alone g) d) s ≡ cleared (view (d.seen file) [] (normal (shown g accepted)))
+        → store.shown (beside (alone g) d) s ≡ view (d.seen file) [] (cleared (normal (shown g accepted)))
     pub only : store.IsHonest (beside (alone g) d) s → (t : Tables) → store.Leaves (beside (alone g) d) s t
-        → t ≡ cleared (view (d.seen file) [] (normal (shown g accepted)))
+        → t ≡ view (d.seen file) [] (cleared (normal (shown g accepted)))
 
   -- the database was accepted, and is not served with this file
   pub record IsNotServed (rows : tables.Store S) (file : D) (fault : PlaceFault) : Type 0 where

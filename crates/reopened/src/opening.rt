@@ -32,7 +32,7 @@ use tables::{Layout, Storage, Store};
 ///
 /// `Database` as `Store::create_or_check` reports it, which leaves the database unchanged, but if it had none of our
 /// tables, a stop may still leave those of a new server; `Contents` as `Placed::open` reports it, which leaves the
-/// file, and of the database all but staged uploads. Both are closed.
+/// file, and of the database all but staged uploads whose chunks are in rows. Both are closed.
 pub fn start_beside<S: Storage + Drop, D: Disk + Drop>(
     alloc: Global,
     mut rows: Store<S>,

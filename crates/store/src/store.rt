@@ -10,7 +10,7 @@ ghost use Rattle.tables.specs.Discarding.{after_discard};
 ghost use Rattle.store.specs.Content.{IsContentOf};
 ghost use Rattle.store.specs.Normal.{normal};
 ghost use Rattle.store.specs.ReadFaults.{result_behind};
-ghost use Rattle.store.specs.Shown.{IsHonest, Moves, AddsNothing, Reads, Changes, PutsOr, Begins, Finds};
+ghost use Rattle.store.specs.Shown.{IsHonest, Moves, AddsNothing, Reads, Changes, PutsOr, Begins, Finds, shown};
 
 use crate::content::ChunkContent;
 use crate::read_fault::ReadFault;
@@ -348,8 +348,9 @@ pub trait Store: State {
 
     /// Notes that a content is lost, before its object is removed as a damaged one: the disk did not return what was
     /// written, so nothing is promised of the store from now on, until it is opened anew. Returns false, and changes
-    /// nothing, if the store has no file of contents.
+    /// nothing, if the store has no file of contents. What the store shows stays in any case.
     fn note_loss(&mut self) -> bool
         ensures noted { result ≡ true → IsHonest Self.State self.new → ⊥ }
-        ensures none { result ≡ false → self.new ≡ self.old };
+        ensures none { result ≡ false → self.new ≡ self.old }
+        ensures shown { shown Self.State self.new ≡ shown Self.State self.old };
 }
