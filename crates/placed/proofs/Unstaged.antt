@@ -19,22 +19,28 @@ IsListed cs ids u = is_staged u ≡ true → has_chunk cs u.id ≡ true → IsOn
 abbrev AreListed : List ℤ → Tables → Type 0
 AreListed ids t = AllByRecursion (IsListed t.chunks ids) t.uploads
 
-all_listed : (cs : List Chunk) (us : List Upload) → AllByRecursion (IsListed cs (filter (has_chunk cs) (staged_ids us))) us
-all_listed cs [] = tt
-all_listed cs (u ∷ us) = at (is_staged u) (has_chunk cs u.id) refl refl (all_listed cs us)
-  where
-    abbrev others : List ℤ
-    others = filter (has_chunk cs) (staged_ids us)
+-- the ids of the staged ones among these uploads of which there is a chunk
+abbrev listed_ids : List Chunk → List Upload → List ℤ
+listed_ids cs us = filter (has_chunk cs) (staged_ids us)
 
-    at : (staged chunked : Bool) → is_staged u ≡ staged → has_chunk cs u.id ≡ chunked
-        → AllByRecursion (IsListed cs others) us
+all_listed : (cs : List Chunk) (us : List Upload) → AllByRecursion (IsListed cs (listed_ids cs us)) us
+all_listed cs [] = tt
+all_listed cs (u ∷ us) = at (is_staged u) refl (all_listed cs us)
+  where
+    here : (chunked : Bool) → has_chunk cs u.id ≡ chunked → AllByRecursion (IsListed cs (listed_ids cs us)) us
+        → AllByRecursion (IsListed cs (cond chunked (u.id ∷ listed_ids cs us) (listed_ids cs us))) (u ∷ us)
+    here true has rest = (
+      (λ _ _. inl refl),
+      all_weaker (IsListed cs (listed_ids cs us)) _ (λ v one staged chunked. inr (one staged chunked)) us rest,
+    )
+    here false has rest = ((λ _ chunked. absurd (true≢false (sym chunked ∙ has))), rest)
+
+    at : (staged : Bool) → is_staged u ≡ staged → AllByRecursion (IsListed cs (listed_ids cs us)) us
         → AllByRecursion
         (IsListed cs (filter (has_chunk cs) (map (λ (v : Upload). v.id) (cond staged (u ∷ filter is_staged us) (filter is_staged us)))))
         (u ∷ us)
-    at true true is has rest = rw has
-        ((λ _ _. inl refl), all_weaker (IsListed cs others) _ (λ v one staged chunked. inr (one staged chunked)) us rest)
-    at true false is has rest = rw has ((λ _ chunked. absurd (true≢false (sym chunked ∙ has))), rest)
-    at false chunked is has rest = ((λ staged _. absurd (true≢false (sym staged ∙ is))), rest)
+    at true is rest = here (has_chunk cs u.id) refl rest
+    at false is rest = ((λ staged _. absurd (true≢false (sym staged ∙ is))), rest)
 
 -- what holds of the elements that pass holds of all that a filter keeps
 passing : {A : Type 0} (P : A → Type 0) (p : A → Bool) (xs : List A) → AllByRecursion (λ x. p x ≡ true → P x) xs
@@ -108,7 +114,7 @@ each_has [] = tt
 each_has (c ∷ cs) = (
   ap (λ b. b || has_chunk cs c.upload) (itself c.upload),
   all_weaker (λ (e : Chunk). has_chunk cs e.upload ≡ true) (λ e. has_chunk (c ∷ cs) e.upload ≡ true)
-  (λ e has. more (is_of e.upload c) (has_chunk cs e.upload) has) cs (each_has cs),
+      (λ e has. more (is_of e.upload c) (has_chunk cs e.upload) has) cs (each_has cs),
 )
   where
     more : (b has : Bool) → has ≡ true → (b || has) ≡ true

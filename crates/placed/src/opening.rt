@@ -103,6 +103,13 @@ fn chunked_uploads<T: Listed>(alloc: Global, rows: &mut T) -> Result<Vec<UploadI
     Ok(ids_in(alloc, &staged, &keys)?)
 }
 
+/// Whether one of the keys is of this upload.
+fn has_key(keys: &[ChunkKey], id: UploadId) -> bool
+    ensures { result ≡ has_key keys.now (upload_number id) }
+{
+    keys.iter().any(|key| key.upload.number() == id.number())
+}
+
 /// The ids of these uploads that have chunks with these keys.
 fn ids_in(
     alloc: Global,
@@ -114,7 +121,7 @@ fn ids_in(
 {
     let mut ids = Vec::new(alloc);
     for upload in uploads {
-        if keys.iter().any(|key| key.upload == upload.id) {
+        if has_key(keys, upload.id) {
             ids.push(upload.id).map_err(AllocError::from)?;
         }
     }

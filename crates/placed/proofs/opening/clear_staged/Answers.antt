@@ -1,6 +1,6 @@
 -- One upload after another is removed.
 use Rattle.std.proofs.Common.{map, subst, ◌∙◌}
-use Rattle.std.proofs.lemmas.List.{take_all}
+use Rattle.std.proofs.lemmas.List.{get_or_default, take_all}
 use Rattle.placed.proofs.Cleared.{Removes, clears_none, clears_then, leaves_all, removes_all, removes_next, removes_none, removes_not}
 use Rattle.tables.specs.Staging.{upload_number}
 use Rattle.placed.proofs.opening.clear_staged.Goals as goal
@@ -10,8 +10,9 @@ loop-id-init g c = removes_none g.T.State c.chunked_uploads.new.rows
 
 pub loop-id-preserved : goal.loop-id-preserved
 loop-id-preserved g c =
-    removes_next g.T.State c.deref-id-items.result.now c.loop-id.id-index c.id-item.result
-    c.chunked_uploads.new.rows c.loop-id.rows c.remove_upload.new.self c.loop-id-test.true c.id-item.is
+    removes_next g.T.State c.deref-id-items.result.now c.loop-id.id-index _
+    c.chunked_uploads.new.rows c.loop-id.rows c.remove_upload.new.self c.loop-id-test.true
+    (get_or_default c.deref-id-items.result.now c.loop-id.id-index _ _ c.loop-id-test.true)
     c.loop-id.invariant c.in_ok-remove_upload.ensures.made
 
 pub returns-in_err-chunked-clause-some : goal.returns-in_err-chunked-clause-some
