@@ -205,6 +205,16 @@ missing db-moving-contents
 missing db-moving-contents-wal
 $ check --db @/db
 | checked 1 objects
+# an object of 65,536 bytes without its bytes
+sql INSERT INTO uploads VALUES (9, 'studio/film', 'bf718b6f653bebc184e1479f1935b8da974d701b893afcf49e701f3e2f9f9c5a', 65536, 1)
+$ migrate --contents --db @/db --explain
+error custody: store G2
+error moved/db: an object has fewer or more bytes than its size says: custody repair removes it
+status 1
+$ repair --db @/db
+| removed studio/film bf718b6f653bebc184e1479f1935b8da974d701b893afcf49e701f3e2f9f9c5a
+| removed 1 objects
+missing db-contents
 # a database of version 2, beside the contents of a copy that was removed
 file db-moving-contents 4 65
 $ migrate --contents --db @/db
