@@ -9,7 +9,7 @@ again, and by sqlite3 at the end. A reply that is neither the right one nor a re
 so does a refusal whose cause the server does not report, or reports within a second of the last report.
 
 The check `spare` kills a server within an upload on the full disk. The program `spare` of deploy/ then has to make room
-without it, so that it starts and goes on.
+without it, so that it starts and goes on. The check `migrate` moves contents on a disk with too little room for the copy.
 """
 import collections
 import contextlib
@@ -39,6 +39,8 @@ ROW = 12
 LOG = 4 * MIB
 # This many tokens are more than the rest of a page and of the log has room for.
 COMMANDS = 1000
+# How much room migrations have that need more: none, less than for an object, and less than for all objects.
+ROOMS = [0, MIB // 2, 4 * MIB]
 # How a connection may end; of the last two the server reports the cause.
 STATED = ["ReadFailed", "WriteFailed", "StoreRefused", "StoreFailed"]
 REPORTED = STATED[2:]
@@ -125,14 +127,19 @@ def kill_within(work):
     work.settle()
 
 
+def judge_refused(server, status, errors):
+    """The status and the error stream are those of a command over the files on the full disk."""
+    want = f"custody: store G2\n{server.database}: the disk is full: make room, and run the command again\n"
+    require((status, errors) == (1, want), f"on the full disk a command ended with {status} and printed {errors!r}")
+
+
 def check_command(server):
     """A command over the files of the server, which is killed, is refused at some time, and names the full disk."""
     status, errors = 0, ""
     for _ in range(COMMANDS):
         if status == 0:
             status, _, errors = server.over_files(*issue_words("bob"), "--explain", with_policy=True)
-    want = f"custody: store G2\n{server.database}: the disk is full: make room, and run the command again\n"
-    require((status, errors) == (1, want), f"on the full disk a command ended with {status} and printed {errors!r}")
+    judge_refused(server, status, errors)
 
 
 def check_rows(work):
@@ -284,6 +291,27 @@ def check_spare(form, options):
     return f"it {'starts' if starts else 'does not start'} on the full disk; then the spare file has {size} bytes again"
 
 
+def check_migrate(form, options):
+    """A migration that has too little room for the copy says so, and goes on with more of it."""
+    option, version = ("--chunks", 3) if form == "file" else ("--contents", 2)
+    with tempfile.TemporaryDirectory() as room, small_disk(f"{room}/disk", SIZE):
+        with DiskServer(options.program, room, form) as server:
+            objects = [made(seed, MIB) for seed in range(8)]
+            require(all(server.ask(put(data))[0] == 200 for data in objects), "an upload was refused")
+            server.end(signal.SIGTERM)
+            for left in ROOMS:
+                fill(f"{room}/disk/rest", left)
+                status, output, errors = server.over_files("migrate", option, "--explain")
+                judge_refused(server, status, output + errors)
+            os.unlink(f"{room}/disk/rest")
+            line = f"migrated from version {version}, {len(objects)} objects\n"
+            require(server.over_files("migrate", option) == (0, line, ""), "with room it was not migrated")
+            server.start()
+            are_there = all(server.ask(message("GET", content(name_of(data)))) == (200, data) for data in objects)
+            require(are_there, "an object differs")
+    return f"{len(objects)} objects of {MIB} bytes, refused with {', '.join(map(str, ROOMS))} bytes of room"
+
+
 # What fills the disk, and how much room is left for it at most: a lock takes 213 bytes, and a token 130.
 CHECKS = {
     "objects": (["upload"], 8 * MIB),
@@ -291,14 +319,16 @@ CHECKS = {
     "tokens": (["authenticate"], MIB // 8),
     "all": (WRITES, 4 * MIB),
 }
+# The others, each of which makes its own disk.
+ALONE = {"spare": check_spare, "migrate": check_migrate}
 
 
 def main():
     """Runs the checks."""
-    parser = arguments(__doc__, [*CHECKS, "spare"], forms=True)
+    parser = arguments(__doc__, [*CHECKS, *ALONE], forms=True)
     parser.add_argument("--rounds", type=int, default=20, help="how often a disk is filled, by all checks together")
     options = parser.parse_args()
-    return judge_forms([*CHECKS, "spare"], options, lambda name, form: check_spare(form, options) if name == "spare"
+    return judge_forms([*CHECKS, *ALONE], options, lambda name, form: ALONE[name](form, options) if name in ALONE
                        else check(*CHECKS[name], form, options))
 
 

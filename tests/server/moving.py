@@ -12,8 +12,9 @@ from pathlib import Path
 
 from tests.studio.checks import arguments, judge_on_server, require
 from tests.studio.policy import FILM, open_policy
-from tests.studio.program import CHUNK, Server, content, lock, made, message, name_of, put
+from tests.studio.program import CHUNK, NotStarted, Server, content, lock, made, message, name_of, put
 from tests.studio.tables import CHUNKS, ROWS, read_copy
+from tests.studio.traced import BY_NAME, Traced
 
 SIZES = [0, 1, CHUNK - 1, CHUNK, CHUNK + 1, 3 * CHUNK, 10 << 20]
 
@@ -42,9 +43,32 @@ class MovedServer(Server):
         require(self.over_files("retire", "--repo", FILM, name_of(b"retired"))[0] == 0, "retire failed")
         return objects
 
+    def is_refused(self):
+        """Whether a server that is started now ends at once. One that does not is ended."""
+        try:
+            self.start()
+        except NotStarted:
+            return True
+        self.end()
+        return False
+
     def path(self, suffix):
         """A file beside the database."""
         return Path(f"{self.database}{suffix}")
+
+
+class Paused(Traced):
+    """A process of which something is done before each of its calls that give a file another name."""
+
+    def __init__(self, words, act):
+        super().__init__(words, stdout=subprocess.PIPE, stderr=subprocess.PIPE)
+        self.act = act
+
+    def changes_file(self, number, arguments):
+        """Whether the call changes a file or a folder."""
+        if BY_NAME.get(number, "").startswith("rename"):
+            self.act()
+        return super().changes_file(number, arguments)
 
 
 def check_there_and_back(server, _):
@@ -107,7 +131,24 @@ def check_changed(server, _):
     return "an object that was retired between two runs is not there"
 
 
-CHECKS = {"there-and-back": check_there_and_back, "killed": check_killed, "changed": check_changed}
+def check_held(server, _):
+    """Until the copy has its name, no server starts, which would take what is lost then."""
+    objects, found = server.fill(), []
+    words, before = [server.program, "migrate", "--db", server.database], server.errors()
+    for option in ("--contents", "--chunks"):
+        paused = Paused([*words, option], lambda: found.append(server.is_refused())).run()
+        printed = paused.printed()
+        require(paused.child.returncode == 0, f"migrate {option} printed {printed}")
+    # The file of contents, and the database in both directions.
+    require(found == [True] * 3, f"before a name was given, a server was refused: {found}")
+    require(server.errors() == before + "custody: store G2\n" * 3, "a server printed something else")
+    server.start()
+    require(all(map(server.has, objects)), "an object differs")
+    return f"{len(found)} servers were refused"
+
+
+CHECKS = {"there-and-back": check_there_and_back, "killed": check_killed, "changed": check_changed,
+          "held": check_held}
 
 
 def main():

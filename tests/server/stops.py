@@ -164,9 +164,7 @@ def check_migrate(server, options):
         judge_left(files, shown[0], rows, again)
         kills += process.is_killed + again.is_killed
         came = files.passes("migrate", option)
-        # After a kill between the last two calls of `--chunks` nothing has a use for the file of contents that is left.
-        left_over = {"-contents"} if came == lines[1] else set()
-        require(came in lines and names <= files.suffixes() <= names | left_over, f"{came!r}, {files.suffixes()}")
+        require(came in lines and files.suffixes() == names, f"{came!r}, {files.suffixes()}")
         require(read_copy(files.database, ROWS) == rows, "the rows differ")
         require(objects_in(files.database) == named(KEPT), "the bytes of an object differ")
         require(files.shown() == shown, "the database has something else")

@@ -35,14 +35,19 @@ fn schema_line(rt: &HostRuntime, db: &str) -> Result<Option<String>, AllocError>
     ).map(Some)
 }
 
-/// What is wrong with the file of contents beside the database.
+/// What is wrong with the file of contents beside the database, or with an object that is in the database itself.
 fn contents_line(
     alloc: Global,
     db: &str,
     cause: ContentsCause,
 ) -> Result<Option<String>, AllocError> {
+    let suffix = if cause == ContentsCause::Damaged {
+        ""
+    } else {
+        "-contents"
+    };
     let text = contents_text(cause);
-    format!(in alloc; "{db}-contents: {text}").map(Some)
+    format!(in alloc; "{db}{suffix}: {text}").map(Some)
 }
 
 /// What is wrong with a file that could not be read.

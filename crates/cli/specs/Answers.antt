@@ -4,7 +4,7 @@ use Rattle.model.specs.Policy.{Row, Decision, allowed, denied}
 use Rattle.policy.specs.Covering.{covers}
 use Rattle.tables.specs.declared.rows.Migrated.TheVariants.{From1, Already}
 use Rattle.cli.specs.declared.opening.Found.{Found}
-use Rattle.cli.specs.declared.opening.Found.TheVariants.{Rows, Places}
+use Rattle.cli.specs.declared.opening.Found.TheVariants.{New, Rows, Places}
 
 -- the question is allowed
 abbrev pub is_allowed : Decision → Bool
@@ -43,6 +43,7 @@ row_line row (Some earlier) =
 
 -- the line of a database that was migrated, or had version 2 or 3 already
 abbrev pub migrated_line : Found → List ℕ
+migrated_line New = codes "already version 2" ++ 10 ∷ []
 migrated_line (Rows From1) = codes "migrated from version 1" ++ 10 ∷ []
 migrated_line (Rows Already) = codes "already version 2" ++ 10 ∷ []
 migrated_line Places = codes "already version 3" ++ 10 ∷ []

@@ -51,6 +51,16 @@ fn move_fault(fault: MoveFault) -> Fault {
     }
 }
 
+/// The fault of a copy with a file of contents. The explanation of `Contents` is about the file beside the database, and
+/// that of `Store` looks for the cause on the disk, which is the copy's too.
+fn copy_fault(fault: Fault) -> Fault {
+    match fault {
+        Fault::Contents(ContentsCause::Damaged) => Fault::Contents(ContentsCause::Damaged),
+        Fault::Contents(_) => refused(),
+        other => other,
+    }
+}
+
 /// The paths of a database that is copied, after links.
 #[derive(Drop)]
 pub(crate) struct Paths {
@@ -166,10 +176,11 @@ impl Paths {
         }
     }
 
-    /// Makes the file of contents of a new copy. That of another one gets its first name again, if a run was interrupted
-    /// that had given it its last. Returns whether there is one.
+    /// Makes the file of contents of a new copy, which has a use for none that is there. That of another one gets its first
+    /// name again, if a run was interrupted that had given it its last. Returns whether there is one.
     fn find_contents(&self, rt: &HostRuntime, is_new: bool) -> Result<bool, Fault> {
         if is_new {
+            remove(rt, self.new.as_str(), "-contents")?;
             make_contents(rt, self.new.as_str())?;
             return Ok(true);
         }
@@ -188,7 +199,7 @@ impl Paths {
     /// Removes the files of the copy.
     fn remove_copy(&self, rt: &HostRuntime) -> Result<(), Fault> {
         let new = self.new.as_str();
-        for suffix in ["-contents", "-wal", ""] {
+        for suffix in ["-contents", "-contents-wal", "-wal", ""] {
             remove(rt, new, suffix)?;
         }
         Ok(())
@@ -239,7 +250,10 @@ impl Paths {
         let mut shown = Shown { terminal };
         for _ in 0..2 {
             let copied = match layout {
-                Layout::Places => self.copy_to_places(rt, old, &mut shown)?,
+                Layout::Places => {
+                    self.copy_to_places(rt, old, &mut shown)
+                        .map_err(copy_fault)?
+                }
                 Layout::Rows => self.copy_to_rows(rt, old, &mut shown)?,
             };
             if let Some(count) = copied {
@@ -248,6 +262,16 @@ impl Paths {
             self.remove_copy(rt)?;
         }
         Err(refused())
+    }
+
+    /// Removes what interrupted runs left beside a database whose contents are rows: none of it belongs to it.
+    ///
+    /// # Errors
+    ///
+    /// `Store` and `Memory`. The database is as it was; what is left of the files is removed by the next run.
+    pub(crate) fn remove_left(&self, rt: &HostRuntime) -> Result<(), Fault> {
+        remove(rt, self.old.as_str(), "-contents")?;
+        self.remove_copy(rt)
     }
 
     /// Gives the copy the names of the database. Both are closed, so neither needs its log, and a log that stayed would be
@@ -291,8 +315,10 @@ impl Paths {
         terminal: Option<&Stderr>,
     ) -> Result<u64, Fault> {
         let count = self.copy(rt, &mut old, Layout::Places, terminal)?;
-        old.close()?;
+        // They keep its lock: what a server stored before the copy has its name would be lost.
+        let files = old.close()?;
         self.take_names(rt, Layout::Places)?;
+        drop(files);
         Ok(count)
     }
 
@@ -324,8 +350,9 @@ impl Paths {
     ) -> Result<u64, Fault> {
         let disk = open_contents(rt, self.old.as_str(), contents)?;
         let (count, rows) = self.copy_from_places(rt, rows, disk, terminal)?;
-        rows.close()?;
+        let files = rows.close()?;
         self.take_names(rt, Layout::Rows)?;
+        drop(files);
         Ok(count)
     }
 }

@@ -33,7 +33,7 @@ fn migrated_line(found: Found) -> &'static str
 {
     match found {
         Found::Rows(Migrated::From1) => "migrated from version 1\n",
-        Found::Rows(Migrated::Already) => "already version 2\n",
+        Found::New | Found::Rows(Migrated::Already) => "already version 2\n",
         Found::Places => "already version 3\n",
     }
 }
@@ -53,14 +53,15 @@ fn move_to_file<S: Start>(
 ) -> Result<String, Fault> {
     let version = match found {
         Found::Rows(Migrated::From1) => 1,
-        Found::Rows(Migrated::Already) => 2,
+        Found::New | Found::Rows(Migrated::Already) => 2,
         Found::Places => return Ok(migrated_line(found).to_owned(rt.alloc())?),
     };
     let objects = Paths::new(rt, db)?.to_places(rt, store, terminal)?;
     Ok(moved_line(rt.alloc(), version, objects)?)
 }
 
-/// The same back.
+/// The same back. One whose contents are rows already is alone afterwards, unless it is new: the files beside that may be
+/// those of a database that was lost.
 fn move_to_rows<S: Starts>(
     rt: &HostRuntime,
     db: &str,
@@ -68,11 +69,15 @@ fn move_to_rows<S: Starts>(
     store: FileTables<S>,
     terminal: Option<&Stderr>,
 ) -> Result<String, Fault> {
-    if let Found::Rows(_) = found {
-        return Ok(migrated_line(found).to_owned(rt.alloc())?);
+    match found {
+        Found::New => {}
+        Found::Rows(_) => Paths::new(rt, db)?.remove_left(rt)?,
+        Found::Places => {
+            let objects = Paths::new(rt, db)?.to_rows(rt, store, S::contents(), terminal)?;
+            return Ok(moved_line(rt.alloc(), 3, objects)?);
+        }
     }
-    let objects = Paths::new(rt, db)?.to_rows(rt, store, S::contents(), terminal)?;
-    Ok(moved_line(rt.alloc(), 3, objects)?)
+    Ok(migrated_line(found).to_owned(rt.alloc())?)
 }
 
 /// Migrates the database, and returns the line that says what was done.

@@ -134,7 +134,9 @@ pub(crate) fn open_for<S: Starts, J: Work, K: Sink>(
 /// Which database `migrate` found.
 #[derive(Clone, Copy)]
 pub(crate) enum Found {
-    /// One whose contents are rows, or a new one.
+    /// One that had no table.
+    New,
+    /// One whose contents are rows.
     Rows(Migrated),
     /// One with a file of contents.
     Places,
@@ -153,7 +155,9 @@ pub(crate) fn open_to_migrate<S: Start>(
 ) -> Result<(Found, FileTables<S>), Fault> {
     make_file(rt, db);
     let mut store = tables::Store::open_from(rt, db, start)?;
+    let is_new = store.is_new();
     let found = match refinement::migrate(rt.alloc(), &mut store) {
+        Ok(_) if is_new => Found::New,
         Ok(migrated) => Found::Rows(migrated),
         Err(OpenFault::UnknownSchema) => {
             store.create_or_check(rt.alloc(), Layout::Places)?;

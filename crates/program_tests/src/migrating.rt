@@ -22,6 +22,12 @@ $ locks --db @/db --repo studio/film
 | 1 refs/heads/main ann 2016-05-17T15:49:06Z art/hero.psd
 $ prune --db @/db --now 1463503600
 | pruned 1 tokens
+# what is beside a new one may be of a database that was lost
+file other-contents 4 65
+chmod other-contents 640
+$ migrate --chunks --db @/other
+| already version 2
+mode other-contents 640
 # it needs the file
 $ migrate --via @/socket
 error error: unexpected argument '--via' found
@@ -156,11 +162,11 @@ chmod db 640
 # it gets version 2 first, and then a file of contents
 $ migrate --contents --db @/db
 | migrated from version 1, 1 objects
-mode db 640
-mode db-contents 640
 missing db-moving
 missing db-moving-contents
 missing db-wal
+mode db 640
+mode db-contents 640
 $ migrate --contents --db @/db
 | already version 3
 $ migrate --db @/db
@@ -181,14 +187,36 @@ $ sweep --db @/db
 # back
 $ migrate --chunks --db @/db
 | migrated from version 3, 1 objects
-mode db 640
 missing db-contents
 missing db-moving
+mode db 640
 $ migrate --chunks --db @/db
 | already version 2
+# files that a stop has left are removed
+file db-contents 4 65
+file db-moving 4 65
+file db-moving-contents 4 65
+file db-moving-contents-wal 0 65
+$ migrate --chunks --db @/db
+| already version 2
+missing db-contents
+missing db-moving
+missing db-moving-contents
+missing db-moving-contents-wal
 $ check --db @/db
 | checked 1 objects
-# a database of version 2
+# an object of 65,536 bytes without its bytes
+sql INSERT INTO uploads VALUES (9, 'studio/film', 'bf718b6f653bebc184e1479f1935b8da974d701b893afcf49e701f3e2f9f9c5a', 65536, 1)
+$ migrate --contents --db @/db --explain
+error custody: store G2
+error moved/db: an object has fewer or more bytes than its size says: custody repair removes it
+status 1
+$ repair --db @/db
+| removed studio/film bf718b6f653bebc184e1479f1935b8da974d701b893afcf49e701f3e2f9f9c5a
+| removed 1 objects
+missing db-contents
+# a database of version 2, beside the contents of a copy that was removed
+file db-moving-contents 4 65
 $ migrate --contents --db @/db
 | migrated from version 2, 1 objects
 $ session --db @/db --policy @/policy --now 1463500146

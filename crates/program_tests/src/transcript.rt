@@ -288,7 +288,7 @@ impl Step {
             "<<" => push(rt, &mut self.output, text, ""),
             "|" => push(rt, &mut self.output, text, "\n"),
             "error" => push(rt, &mut self.errors, text, "\n"),
-            "missing" => push(rt, &mut self.missing, text, ""),
+            "missing" => push(rt, &mut self.missing, text, "\n"),
             "lock" | "get" | "post" | "put" => {
                 push(rt, &mut self.input, request(rt, mark, text).as_str(), "");
             }
@@ -300,15 +300,25 @@ impl Step {
         }
     }
 
-    /// Whether the file that must not exist exists.
+    /// Whether a file that must not exist exists.
     fn leaves_file(&self, rt: &impl Tester, host: &HostRuntime, folder: &str) -> bool {
-        let path = path_of(rt, folder, self.missing.as_str());
-        !self.missing.is_empty() && fs::metadata(host, path.as_str()).is_ok()
+        for name in self.missing.lines() {
+            let path = path_of(rt, folder, name);
+            if fs::metadata(host, path.as_str()).is_ok() {
+                return true;
+            }
+        }
+        false
     }
 
     /// Runs the command, if there is one, and compares its result with the step.
     fn run(&self, rt: &impl Tester, host: &HostRuntime, folder: &str) {
         if self.command.is_empty() {
+            assert!(rt;
+                self.missing.is_empty(),
+                "{folder}: missing {}",
+                self.missing
+            );
             return;
         }
         if !self.policy.is_empty() {
@@ -331,7 +341,7 @@ impl Step {
         let form = form_of(rt, host, folder);
         let wanted = text_of(rt, self.status, self.output.as_str(), self.errors.as_str());
         panic!(rt;
-            "{folder} ({form:?}), line {}: {}\nwanted: {wanted}, without the file {:?}\ncame:   {came}",
+            "{folder} ({form:?}), line {}: {}\nwanted: {wanted}, without the files {:?}\ncame:   {came}",
             self.line, self.command, self.missing
         );
     }
