@@ -108,7 +108,7 @@ SUITES = [
           4, ("sqlite3",), quick=only("stopped", "repositories", "refused")),
     Suite("contents", "tests.server.contents", "Contents in a file beside the database are kept, found and given back.",
           2, ("sqlite3", "strace"), quick=("--rounds", "10", "--objects", "2000", *only(
-              "sizes", "killed", "room", "filled", "missing", "not-empty", "spoiled", "start"))),
+              "sizes", "killed", "left", "room", "filled", "missing", "not-empty", "spoiled", "start"))),
     Suite("moving", "tests.server.moving", "A database is moved to a file of contents and back, and loses nothing.",
           2, ("sqlite3",), quick=("--rounds", "3")),
     Suite("stops", "tests.server.stops", "A program that is killed at a call that changes a file loses nothing.",

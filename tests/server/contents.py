@@ -12,7 +12,7 @@ import sys
 import time
 from pathlib import Path
 
-from tests.studio.checks import arguments, judge_on_server, require, within
+from tests.studio.checks import arguments, comes_true, judge_on_server, require, within
 from tests.studio.control import ControlledServer
 from tests.studio.policy import FILM, open_policy
 from tests.studio.program import CHUNK, content, free_port, made, message, name_of, put
@@ -102,6 +102,23 @@ def check_killed(server, options):
         require(server.has(data), "an object that was reported is lost")
     return (f"{options.rounds} servers were killed: {len(kept) - whole} objects that were reported are whole, "
             f"{whole} others too, and {lost} are not there")
+
+
+def check_left(server, _):
+    """What a kill within an upload left at the end of the file is cut off at the next start."""
+    kept, lost = made(1, 200_000), made(2, 8 << 20)
+    require(server.put(kept) == 200, "an upload was refused")
+    path = server.contents()
+    with server.client() as client:
+        client.send(put(lost)[:-1])
+        require(comes_true(lambda: path.stat().st_size > len(kept) + len(lost) // 2), "the upload is not in the file")
+        server.end(signal.SIGKILL)
+    left = path.stat().st_size
+    server.start()
+    size = path.stat().st_size
+    require(size == len(kept), f"after the start the file has {size} bytes, not {len(kept)}")
+    require(server.has(kept) and server.get(name_of(lost))[0] == 404, "the server has other objects")
+    return f"of {left} bytes in the file {size} are left, those of the object"
 
 
 def check_room(server, _):
@@ -282,6 +299,7 @@ def check_start(server, options):
 CHECKS = {
     "sizes": check_sizes,
     "killed": check_killed,
+    "left": check_left,
     "room": check_room,
     "filled": check_filled,
     "missing": check_missing,

@@ -178,9 +178,7 @@ def check_stopped(server, _):
     _, replied, _ = server.over_files("session", given=message("GET", content(oid)), with_policy=True)
     require(replied.startswith("HTTP/1.1 404 ") and '"X1: ' in replied, f"a session replied {replied!r}")
     swept = [server.over_files("sweep") for _ in range(2)]
-    # A database with a file of contents is opened without what was being received.
-    counts = (0, 0) if server.form == "file" else (1, 0)
-    require(swept == [(0, f"swept {count} uploads\n", "") for count in counts], f"sweep gave {swept}")
+    require(swept == [(0, f"swept {count} uploads\n", "") for count in (1, 0)], f"sweep gave {swept}")
     server.start()
     expect_stored(server, "SELECT (SELECT count(*) FROM uploads), (SELECT count(*) FROM chunks);", ["0|0"])
     require(stop_after_first_chunk(server) == oid, "another upload")
@@ -191,8 +189,7 @@ def check_stopped(server, _):
     data = Path(f"{server.room}/content").read_bytes()
     is_stored = upload(server, oid, data) == 200 and get(server, oid) == (200, data)
     require(is_stored, "the object is not stored by a later upload")
-    return (f"X1 after each stop; sweep printed {counts[0]} and then 0 uploads, and a server removes it before its first "
-            "connection")
+    return "X1 after each stop; sweep removes the upload, and a server does so before its first connection"
 
 
 def check_repositories(server, _):

@@ -311,8 +311,7 @@ def check_sweep(server, options):
     fill(server)
     server.start()
     stage(server)
-    # With a file of contents each opening of the database removes what a stop left of uploads.
-    lines = ("swept 0 uploads\n" if server.form == "file" else "swept 1 uploads\n", "swept 0 uploads\n")
+    lines = ("swept 1 uploads\n", "swept 0 uploads\n")
     return judge_removal(server, options, ("sweep",), lines, KEPT, lambda files: staged_in(files.database) == 0,
                          lambda files, _: files.passes("check"))
 

@@ -148,7 +148,7 @@ fn start<S: Storage + Drop, D: Disk + Drop>(
 
 impl<S: Storage + Drop, D: Disk + Drop> Database for Placed<Store<S>, D> {
     fn with_tables(mut self, alloc: Global) -> With<Placed<Store<S>, D>, String> {
-        // An opening removes what is staged, so a store that is open is left so.
+        // An opening forgets what was received of staged uploads, so a store that is open is left so.
         if self.all_repos(alloc).is_ok() {
             return (Some(self), Ok(String::new(alloc)));
         }

@@ -6,6 +6,8 @@ mod beside_rows;
 #[cfg(test)]
 mod copies;
 #[cfg(test)]
+mod full;
+#[cfg(test)]
 mod harness;
 #[cfg(test)]
 mod layouts;

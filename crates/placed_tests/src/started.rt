@@ -2,6 +2,7 @@
 
 use crate::beside_rows::{begun, has, stored};
 use crate::harness::{Tester, in_memory, unwrap};
+use crate::opened::is_staged_alone;
 use placed::{PlaceFault, Placed};
 use reopened::{BesideFault, start_beside};
 use sqlite::MemStore;
@@ -22,11 +23,11 @@ fn a_new_database_is_made_and_accepted_again(rt: HostRuntime) {
     let rows = unwrap(&rt, tables::Store::open_memory(rt.alloc()));
     let mut store = unwrap(&rt, started(&rt, rows));
     let film = stored(&rt, &mut store, "studio/film", b'a');
-    let _ = begun(&rt, &mut store, "studio/game", 65_536);
+    let staged = begun(&rt, &mut store, "studio/game", 65_536);
     let (rows, file) = store.into_parts();
     let mut store = unwrap(&rt, start_beside(rt.alloc(), rows, file));
     assert!(rt; has(&rt, &mut store, film, 1, (b'b', 65_536)));
-    assert!(rt; unwrap(&rt, store.staged_uploads(rt.alloc())).is_empty());
+    assert!(rt; is_staged_alone(&rt, &mut store, staged));
     // Without its file the object is not served.
     let (rows, _) = store.into_parts();
     let short = started(&rt, rows);

@@ -115,7 +115,7 @@ fn go_on_or_stop<A: Listed, S: Storage + Drop>(
 }
 
 /// A connection's options, with room for few pages that were read: a stop takes two connections.
-fn small() -> Options {
+pub(crate) fn small() -> Options {
     let mut options = Options::new(7);
     options.cache_pages = 50;
     options

@@ -162,8 +162,7 @@ $ objects --db @/db --repo studio/film
 $ retire --db @/db --repo studio/film ba7816bf8f01cfea414140de5dae2223b00361a396177a9cb410ff61f20015ad
 | retired ba7816bf8f01cfea414140de5dae2223b00361a396177a9cb410ff61f20015ad
 $ sweep --db @/db
-in-rows | swept 1 uploads
-in-file | swept 0 uploads
+| swept 1 uploads
 $ objects --db @/db --repo studio/film
 | e3b0c44298fc1c149afbf4c8996fb92427ae41e4649b934ca495991b7852b855 0
 $ objects --db @/db --repo studio/game
