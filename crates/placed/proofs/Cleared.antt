@@ -1,4 +1,4 @@
--- The staged uploads whose chunks are in rows are removed, one after another.
+-- The staged uploads whose chunks are in rows are removed, one after another; and what is shown then, for proofs in other crates.
 use Rattle.placed.proofs.Prelude.{◌≡◌, inl, inr, ℕ, ℤ, Bool, List, [], ◌∷◌, ◌++◌, ◌+◌, ◌<◌, length, take, slice_index_or, map, filter, Option, Some, None, refl, sym, ap, subst, ◌∙◌, AllByRecursion, IsAscending, moves_none, Upload, Chunk, Tables, is_place, is_staged, staged_with, settled, Remains, Ghosts, IsHonest, IsOpen, HasTables, Leaves, shown, Moves, AddsNothing, Makes, Reads, Ok, upload_number, int_eq, UploadId, UploadRow, Vec, view, without_found, without_staged}
 use Rattle.std.specs.Prelude.{◌⊎◌, ◌||◌}
 use Rattle.std.specs.List.{list_any}
@@ -225,16 +225,19 @@ module _ {S : Type 0} (g : Ghosts S) where
   -- the ids of the staged uploads whose chunks are in rows, which two calls read
   module _ (rows : Vec UploadRow) (keys : Vec ChunkKey) (old mid new : S)
       (found : Reads g old mid (Ok rows) (λ t found. AreUploadsOf found.items (filter is_staged t.uploads)))
-      (all : Reads g mid new (Ok keys) (λ t found. AreAllKeys found.items t)) (ids : List ℤ)
-      (is : ids ≡ filter (has_key keys.items) (map (λ (row : UploadRow). upload_number row.id) rows.items)) where
+      (all : Reads g mid new (Ok keys) (λ t found. AreAllKeys found.items t)) (seen : List UploadRow) (some : List ChunkKey)
+      (rows_are : seen ≡ rows.items) (keys_are : some ≡ keys.items) (ids : List ℤ)
+      (is : ids ≡ filter (has_key some) (map (λ (row : UploadRow). upload_number row.id) seen)) where
     pub chunked_read : IsHonest g new → HasTables g old → IsOpen g old × (ids ≡ chunked_ids (shown g old))
     chunked_read k h =
         let k' = all.same.was_honest k in
         let first = found.answers k' h in
         let second = all.answers k (found.same.ready h) in (
           first.0,
-          chunked rows.items keys.items ids (shown g old) first.1
-              (subst (AreAllKeys keys.items) (found.same.shows k' h second.0) second.1) is,
+          chunked seen some ids (shown g old)
+              (subst (λ (l : List UploadRow). AreUploadsOf l (filter is_staged (shown g old).uploads)) (sym rows_are) first.1)
+              (subst (λ (l : List ChunkKey). AreAllKeys l (shown g old)) (sym keys_are)
+              (subst (AreAllKeys keys.items) (found.same.shows k' h second.0) second.1)) is,
         )
 
   -- those that a call found were removed

@@ -1,8 +1,5 @@
 -- Both calls read the same tables.
-use Rattle.std.proofs.Common.{ap₂, filter, map, ◌∙◌}
 use Rattle.store.proofs.Moved.{moves_then, nothing_then}
-use Rattle.tables.specs.Staging.{upload_number}
-use Rattle.placed.specs.Opening.{has_key}
 use Rattle.placed.proofs.Cleared.{chunked_read}
 use Rattle.placed.proofs.opening.chunked_uploads.Goals as goal
 
@@ -11,9 +8,8 @@ returns g c =
     let first = c.in_ok-staged.ensures in
     let second = c.in_ok-keys.ensures in
     record {
-      answers = chunked_read g.T.State c.in_ok-staged.staged c.in_ok-keys.keys _ _ _ first second _
-          (c.in_ok-ids_in.ensures
-          ∙ ap₂ (λ keys rows. filter (has_key keys) (map (λ row. upload_number row.id) rows)) c.deref-2.ensures.value c.deref.ensures.value);
+      answers = chunked_read g.T.State c.in_ok-staged.staged c.in_ok-keys.keys _ _ _ first second _ _
+          c.deref.ensures.value c.deref-2.ensures.value _ c.in_ok-ids_in.ensures;
       same = moves_then g.T.State _ _ _ first.same second.same;
       adds = nothing_then g.T.State _ _ _ first.adds second.adds;
     }
