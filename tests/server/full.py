@@ -8,8 +8,9 @@ at once, without a restart. What was acknowledged is compared with what is store
 again, and by sqlite3 at the end. A reply that is neither the right one nor a refusal of the store fails the check, and
 so does a refusal whose cause the server does not report, or reports within a second of the last report.
 
-The check `spare` kills a server within an upload on the full disk. The program `spare` of deploy/ then has to make room
-without it, so that it starts and goes on. The check `migrate` moves contents on a disk with too little room for the copy.
+The check `spare` kills a server within an upload on the full disk, and starts it again there. The program `spare` of
+deploy/ then has to make room without it, so that it goes on. The check `migrate` moves contents on a disk with too little
+room for the copy.
 """
 import collections
 import contextlib
@@ -27,7 +28,7 @@ from pathlib import Path
 
 from tests.studio.checks import arguments, comes_true, judge_forms, require
 from tests.studio.control import ControlledServer, issue_words
-from tests.studio.program import FORMS, TOP, NotStarted, content, lock, made, message, name_of, put, run
+from tests.studio.program import FORMS, TOP, content, lock, made, message, name_of, put, run
 from tests.studio.tables import read_copy, staged_in
 from tests.studio.work import REMOVALS, WRITES, Killed, Work, compare_all
 
@@ -276,19 +277,15 @@ def check_spare(form, options):
             require(server.ask(put(data))[0] == 200, "an upload was refused")
             require(run_spare(server, "make") == (0, ""), "the spare file was not made")
             kill_on_full_disk(server)
-            starts = True
-            try:
-                server.start()
-                server.end(signal.SIGKILL)
-            except NotStarted:
-                starts = False
+            server.start()
+            server.end(signal.SIGKILL)
             status, printed = run_spare(server, "sweep")
             require(status == 0 and "swept " in printed, f"spare sweep ended with {status}, and printed {printed!r}")
             size = Path(room, "disk/spare").stat().st_size
             server.start()
             require(server.ask(message("GET", content(name_of(data)))) == (200, data), "an object differs")
             require(server.ask(lock("art/a.psd"))[0] == 201, "a lock was refused")
-    return f"it {'starts' if starts else 'does not start'} on the full disk; then the spare file has {size} bytes again"
+    return f"it starts on the full disk; then the spare file has {size} bytes again"
 
 
 def check_migrate(form, options):
