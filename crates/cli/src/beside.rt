@@ -41,21 +41,32 @@ pub(crate) fn create_like(rt: &HostRuntime, path: &str, db: &str) -> io::Result<
     Ok(())
 }
 
+/// Returns whether there is a file of contents beside a database that has none of its contents in one.
+///
+/// # Errors
+///
+/// `Contents` if there is one that has bytes; and `Memory`.
+pub(crate) fn has_empty_contents(rt: &HostRuntime, db: &str) -> Result<bool, Fault> {
+    let path = contents_path(rt, db)?;
+    match fs::metadata(rt, path.as_str()) {
+        Ok(found) if found.len() == 0 => Ok(true),
+        Ok(_) => Err(refused(ContentsCause::NotEmpty)),
+        Err(error) if error.kind() == ErrorKind::NotFound => Ok(false),
+        Err(_) => Err(refused(ContentsCause::Failed)),
+    }
+}
+
 /// Makes an empty file of contents beside a database that has no tables yet, unless there is one.
 ///
 /// # Errors
 ///
 /// `Contents` if there is a file of the name that has bytes, or none can be made; and `Memory`.
 pub(crate) fn make_contents(rt: &HostRuntime, db: &str) -> Result<(), Fault> {
-    let path = contents_path(rt, db)?;
-    match fs::metadata(rt, path.as_str()) {
-        Ok(found) if found.len() == 0 => Ok(()),
-        Ok(_) => Err(refused(ContentsCause::NotEmpty)),
-        Err(error) if error.kind() == ErrorKind::NotFound => {
-            create_like(rt, path.as_str(), db).map_err(|_| refused(ContentsCause::Failed))
-        }
-        Err(_) => Err(refused(ContentsCause::Failed)),
+    if has_empty_contents(rt, db)? {
+        return Ok(());
     }
+    let path = contents_path(rt, db)?;
+    create_like(rt, path.as_str(), db).map_err(|_| refused(ContentsCause::Failed))
 }
 
 /// Opens the file of contents beside a database.

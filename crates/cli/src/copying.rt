@@ -1,7 +1,8 @@
 //! The copy of a database into new files of the other layout, which then take its names.
 
 use crate::beside::{
-    contents_path, create_like, fault_beside, make_contents, open_contents, place_fault,
+    contents_path, create_like, fault_beside, has_empty_contents, make_contents, open_contents,
+    place_fault,
 };
 use crate::opening::FileTables;
 use compared::is_same;
@@ -56,6 +57,7 @@ fn move_fault(fault: MoveFault) -> Fault {
 fn copy_fault(fault: Fault) -> Fault {
     match fault {
         Fault::Contents(ContentsCause::Damaged) => Fault::Contents(ContentsCause::Damaged),
+        Fault::Contents(ContentsCause::NotEmpty) => Fault::Contents(ContentsCause::NotEmpty),
         Fault::Contents(_) => refused(),
         other => other,
     }
@@ -178,8 +180,14 @@ impl Paths {
 
     /// Makes the file of contents of a new copy, which has a use for none that is there. That of another one gets its first
     /// name again, if a run was interrupted that had given it its last. Returns whether there is one.
+    ///
+    /// # Errors
+    ///
+    /// `Contents` with `NotEmpty` if the copy is new, and a file of its last name has bytes: no copy has left it, so it may be
+    /// that of a database that was lost. `Store`, and other `Contents`, if a call of the system failed; and `Memory`.
     fn find_contents(&self, rt: &HostRuntime, is_new: bool) -> Result<bool, Fault> {
         if is_new {
+            has_empty_contents(rt, self.old.as_str())?;
             remove(rt, self.new.as_str(), "-contents")?;
             make_contents(rt, self.new.as_str())?;
             return Ok(true);

@@ -192,8 +192,14 @@ missing db-moving
 mode db 640
 $ migrate --chunks --db @/db
 | already version 2
-# files that a stop has left are removed
+# bytes that no copy has left may be of a database that was lost
 file db-contents 4 65
+$ migrate --contents --db @/db --explain
+error custody: store G2
+error moved/db-contents: this file has bytes, and the database is new: move it away, or put its database beside it
+status 1
+missing db-moving-contents
+# files that a stop has left are removed
 file db-moving 4 65
 file db-moving-contents 4 65
 file db-moving-contents-wal 0 65
