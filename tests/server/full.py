@@ -135,11 +135,13 @@ def judge_refused(server, status, errors):
 
 
 def check_command(server):
-    """A command over the files of the server, which is killed, is refused at some time, and names the full disk."""
+    """A command over the files of the server, which is killed, is refused at some time, and names the full disk. The first
+    one frees what the kill has left at the end of a file of contents: then the file `rest` takes that room too."""
     status, errors = 0, ""
     for _ in range(COMMANDS):
         if status == 0:
             status, _, errors = server.over_files(*issue_words("bob"), "--explain", with_policy=True)
+            fill(f"{server.room}/disk/rest")
     judge_refused(server, status, errors)
 
 
