@@ -5,9 +5,11 @@
 #![tactic(auto)]
 
 mod intake;
+mod portions;
 mod pouring;
 mod verifying;
 
 pub use intake::{Arrival, Intake};
+pub use portions::portion;
 pub use pouring::{PourCause, PourFault, pour};
 pub use verifying::is_whole;

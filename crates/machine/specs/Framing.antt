@@ -4,8 +4,8 @@ use Rattle.names.specs.declared.rules.Rule.{Rule}
 use Rattle.httparse.specs.Grammar.{RequestHead, MayBecomeRequest}
 use Rattle.model.specs.Heads.{check_framing, content_length}
 use Rattle.model.specs.Stream.{BeginsBadly, BeginsWithHead, IsUnfinished}
-use Rattle.sockets.specs.declared.client.Extent.{Extent}
-use Rattle.sockets.specs.declared.client.Extent.TheVariants.{Head, Message, Refused}
+use Rattle.connections.specs.declared.extent.Extent.{Extent}
+use Rattle.connections.specs.declared.extent.Extent.TheVariants.{Head, Message, Refused}
 
 -- a rule refuses the framing of the head at the front of the bytes
 pub record HasRefusedHead (bytes : List ℕ) : Type 0 where

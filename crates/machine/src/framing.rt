@@ -3,7 +3,7 @@
 ghost use Rattle.machine.specs.Framing.{IsExtent};
 
 use httparse::spans::EMPTY_HEADER_SPAN;
-use sockets::{Extent, Framing};
+use sockets::{Extent, Framing, MessageKind};
 use wire::{Cut, FIELD_LIMIT, Head, first_head, front_of};
 
 /// The messages of HTTP.
@@ -13,15 +13,22 @@ pub(crate) struct Messages;
 /// The largest upload whose turn is one of a short message, in bytes.
 const SHORT_UPLOAD: u64 = 65_536;
 
-/// Whether a message moves the content of an object: a large upload, or what may be a download.
-fn is_transfer(method: &[u8], target: &[u8], body: u64) -> bool {
+/// What a message moves: the content of a large upload, or of what may be a download. A POST has at most 1 MiB, and a message
+/// of another method, which may have a body of any size, is refused at its head.
+fn kind_of(method: &[u8], target: &[u8], body: u64) -> MessageKind {
     match method {
-        b"PUT" => body > SHORT_UPLOAD,
-        b"GET" => target
-            .windows(9)
-            .any(|part| part == b"/content/".as_slice()),
-        _ => false,
+        b"GET" if has_content(target) => MessageKind::Download,
+        b"GET" | b"POST" => MessageKind::Short,
+        _ if body > SHORT_UPLOAD => MessageKind::Upload,
+        _ => MessageKind::Short,
     }
+}
+
+/// Whether a target may be that of an object.
+fn has_content(target: &[u8]) -> bool {
+    target
+        .windows(9)
+        .any(|part| part == b"/content/".as_slice())
 }
 
 /// What the bytes begin with: a head with its body, or a part of a head.
@@ -36,7 +43,7 @@ fn extent_of(bytes: &[u8]) -> Extent
                 Ok(body) => Extent::Message {
                     head: spans.len,
                     body,
-                    is_transfer: is_transfer(head.method(), head.target(), body),
+                    kind: kind_of(head.method(), head.target(), body),
                 },
                 Err(_) => Extent::Refused,
             }

@@ -1,8 +1,8 @@
 //! The machine that a server runs on.
 
-ghost use Rattle.std.specs.Prelude.{◌≡◌, ⊤, IfNone, IfOk, IfSome, OnErr, OnOk};
+ghost use Rattle.std.specs.Prelude.{◌≡◌, ◌≤◌, ⊤, length, take, IfNone, IfOk, IfSome, OnErr, OnOk};
 ghost use Rattle.refinement.specs.Left.{From};
-ghost use Rattle.machine.specs.Observations.{Observation, Talk, called, drawn, finished, loaded, received, sent, talked, timed, waited};
+ghost use Rattle.machine.specs.Observations.{Observation, Talk, aside, called, closed, drawn, finished, loaded, received, sent, talked, timed, told, waited};
 
 use crate::conversation::{Conversation, Talked};
 use crate::framing::Messages;
@@ -17,7 +17,7 @@ use metrics::{Gauges, Turn};
 use names::{Counted, Moment};
 use outbox::OperatorStream;
 use policy::Policy;
-use service::End;
+use service::{Begun, Download, End};
 use sockets::{Caller, Client, Course, Ended, Front, Queue};
 use std::cell::Cell;
 use std::fs;
@@ -162,8 +162,22 @@ pub trait Machine {
         ensures some { IfSome result (λ held. (talk : Talk)
             × observed self.old self.new (talked client.old talk held.turn.served)
             × From S.State store.old store.new (λ world. T.leads conversation.now S.State
-            talk held.turn.served store.old store.new world)) }
-        ensures none { IfNone result ((store.new ≡ store.old) × idled self.old self.new) };
+            talk held.turn.served held.later store.old store.new world)) }
+        ensures none { IfNone result ((store.new ≡ store.old) × idled self.old self.new) }
+        ensures number { client.new.number ≡ client.old.number };
+
+    /// Sends bytes of an object to a client, and does not wait for him. Returns how many of them he took: none if he takes
+    /// none now. `None` if he has gone.
+    fn tell(&mut self, client: &mut Client, bytes: &[u8]) -> Option<usize>
+        ensures some { IfSome result (λ count. (count ≤ length bytes.now)
+            × observed self.old self.new (told client.old (take count bytes.now))) }
+        ensures none { IfNone result (idled self.old self.new) }
+        ensures number { client.new.number ≡ client.old.number };
+
+    /// Keeps a client to whom an object is sent in parts. He is served next when he takes bytes, or in his turn if he is due.
+    /// This is the number of the connection from now on.
+    fn put_aside(&mut self, client: Client, number: u64, is_due: bool)
+        ensures { observed self.old self.new (aside client number) };
 
     /// Takes back a client after a turn that ended so, and returns how its connection ended; `None` if it goes on, since
     /// the whole message of the turn was read. This is the number of the connection from now on.
@@ -182,7 +196,7 @@ pub trait Machine {
 
     /// Closes the connection of a client at once.
     fn close(&mut self, client: Client)
-        ensures { idled self.old self.new };
+        ensures { observed self.old self.new (closed client) };
 
     /// Accepts no further client, and closes the connections that had no turn.
     fn shut(&mut self)
@@ -311,28 +325,30 @@ impl<C: Clock> Sockets<'_, C> {
         self.refusals.report(self.rt, self.clock, self.db);
     }
 
-    /// Holds a conversation over the connection of a client. What had arrived is read first.
+    /// Holds a conversation over the connection of a client. What had arrived is read first, and what is written is kept, to be
+    /// sent after the turn.
     fn talk<S: Store, T: Conversation>(
         &self,
-        client: &Client,
+        client: &mut Client,
         front: &mut Front,
         store: &mut S,
         conversation: &T,
-    ) -> Turn
+    ) -> (Turn, Option<Download>)
         ensures { (talk : Talk) × From S.State store.old store.new (λ world.
-            T.leads conversation.now S.State talk result.served store.old store.new world) }
+            T.leads conversation.now S.State talk result.0.served result.1 store.old store.new world) }
     {
         let course = Cell::new(Course::new());
         let (received, sent) = (Cell::new(0), Cell::new(0));
         let (reader, writer) = self.queue.stream_pair(client, self.clock, &course, front);
         let mut source = Counted::new(Metered::new(reader, &received));
         let mut sink = Counted::new(Metered::new(writer, &sent));
-        let served = conversation.hold(store, &mut source, &mut sink);
-        Turn {
+        let Begun { served, later } = conversation.hold(store, &mut source, &mut sink);
+        let turn = Turn {
             served,
             received: received.get(),
             sent: sent.get(),
-        }
+        };
+        (turn, later)
     }
 }
 
@@ -416,7 +432,9 @@ impl<C: Clock> Machine for Sockets<'_, C> {
     fn gauges(&mut self) -> Gauges {
         Gauges {
             waiting: self.queue.waiting(),
+            under_way: self.queue.under_way(),
             longest_wait: self.queue.longest_wait(),
+            longest_transfer_wait: self.queue.longest_transfer_wait(),
             database: size_of_file(self.rt, self.db),
             log: size_of_log(self.rt, self.db),
             memory: resident_memory(self.rt),
@@ -435,8 +453,25 @@ impl<C: Clock> Machine for Sockets<'_, C> {
         conversation: &T,
     ) -> Option<Talked> {
         let mut front = client.begin(self.rt.alloc()).ok()?;
-        let turn = self.talk(client, &mut front, store, conversation);
-        Some(Talked { turn, front })
+        let number = client.number;
+        let (turn, later) = self.talk(client, &mut front, store, conversation);
+        // The connection has the number that it had, whatever was done over it.
+        client.number = number;
+        Some(Talked { turn, front, later })
+    }
+
+    fn tell(&mut self, client: &mut Client, bytes: &[u8]) -> Option<usize> {
+        let now = Instant::now(self.clock).ok()?;
+        let number = client.number;
+        let sent = client.send(bytes, now);
+        // As after a talk.
+        client.number = number;
+        sent.ok()
+    }
+
+    fn put_aside(&mut self, mut client: Client, number: u64, is_due: bool) {
+        client.number = Some(number);
+        self.queue.put_aside(client, is_due);
     }
 
     fn end_turn(
@@ -458,7 +493,7 @@ impl<C: Clock> Machine for Sockets<'_, C> {
             End::Closed | End::StoreRefused => self
                 .queue
                 .dismiss(client, self.clock, &Messages)
-                .map(|()| Some(end)),
+                .map(|is_open| Some(if is_open { end } else { End::WriteFailed })),
             _ => {
                 self.queue.close(client);
                 Ok(Some(end))

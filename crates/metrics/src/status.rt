@@ -11,8 +11,12 @@ use store::Room;
 pub struct Gauges {
     /// How many clients wait for a turn, since their message has arrived.
     pub waiting: usize,
-    /// The longest time that a message of a client has waited for its turn.
+    /// To how many clients an object or the rest of a reply is sent.
+    pub under_way: usize,
+    /// The longest time that a short message of a client has waited for its turn.
     pub longest_wait: Duration,
+    /// The longest time that the message of an upload or a download has waited for its turn.
+    pub longest_transfer_wait: Duration,
     /// The size of the database's file, in bytes.
     pub database: u64,
     /// The size of its log, in bytes.
@@ -311,6 +315,16 @@ impl Metrics {
         self.value_of(name, "state", "free", room.free)
     }
 
+    /// Adds how long requests have waited.
+    fn waits(&mut self, gauges: &Gauges) -> Result<(), AllocError> {
+        let name = "custody_longest_wait_seconds";
+        let help = "Longest time that a request without an object has waited for its turn.";
+        self.time(name, "gauge", help, gauges.longest_wait)?;
+        let name = "custody_longest_transfer_wait_seconds";
+        let help = "Longest time that an upload or a download has waited for its turn.";
+        self.time(name, "gauge", help, gauges.longest_transfer_wait)
+    }
+
     /// Adds what the machine knows.
     fn gauges(
         &mut self,
@@ -321,9 +335,10 @@ impl Metrics {
         let name = "custody_waiting_connections";
         let help = "Connections whose request waits for its turn.";
         self.number(name, "gauge", help, gauges.waiting as u64)?;
-        let name = "custody_longest_wait_seconds";
-        let help = "Longest time that a request has waited for its turn.";
-        self.time(name, "gauge", help, gauges.longest_wait)?;
+        let name = "custody_sending_connections";
+        let help = "Connections to which an object or the rest of a reply is sent.";
+        self.number(name, "gauge", help, gauges.under_way as u64)?;
+        self.waits(gauges)?;
         let name = "custody_uptime_seconds";
         let help = "Time since the server began.";
         self.time(name, "gauge", help, gauges.since(counts.began))?;

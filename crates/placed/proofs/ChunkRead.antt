@@ -29,7 +29,7 @@ module _ {T D : Type 0} (g : Ghosts T) (d : disk.Ghosts D) (s : Placed T D) wher
     disk_is : then.disk ≡ s.disk
     disk_is = ap (λ (it : Placed T D). it.disk) rest
 
-    reads_last : {X : Type 0} (r : Result X StoreFault) (P : Tables → X → Type 0)
+    pub reads_last : {X : Type 0} (r : Result X StoreFault) (P : Tables → X → Type 0)
         → (AreHonest g d (record then { disk = disk }) → HasPlaces g d s
         → IfOk r (λ x. IsOpen g s.rows × P (shown_with g d s) x))
         → Reads (beside g d) s (record then { disk = disk }) r P

@@ -19,6 +19,7 @@ pub mod Removing
 pub mod RowCompleted
 pub mod Located
 pub mod Fetched
+pub mod PortionRead
 pub mod ChunkRead
 pub mod Written
 pub mod Added

@@ -152,6 +152,16 @@ impl<T: Store, D: Disk> Store for Placed<T, D> {
         }
     }
 
+    fn content_at(
+        &mut self,
+        alloc: Global,
+        upload: UploadId,
+        at: u64,
+        most: usize,
+    ) -> Result<Option<Vec<u8>>, ReadFault> {
+        self.portion(alloc, upload, at, most)
+    }
+
     fn add_chunk(&mut self, upload: UploadId, n: u32, bytes: &[u8]) -> Result<(), StoreFault> {
         self.add_piece(upload, n, bytes)
     }

@@ -9,6 +9,7 @@ mod listed;
 mod opening;
 mod place;
 mod placed;
+mod portions;
 mod reading;
 mod receiving;
 mod removal;

@@ -17,7 +17,7 @@ pub(crate) const PIECE: u64 = 65_536;
 
 /// Why a read of the file failed: it lost the bytes if it answers another call. After a stop of the machine it answers
 /// none.
-fn fault_of_read<D: Disk>(disk: &mut D) -> ReadFault
+pub(crate) fn fault_of_read<D: Disk>(disk: &mut D) -> ReadFault
     ensures frozen { IsTrue (D.Disk.is_frozen disk.old) → result ≡ by_store Refused }
     ensures same { IsSameFile D.Disk disk.old disk.new }
 {

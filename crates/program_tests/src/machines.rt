@@ -103,7 +103,9 @@ impl Machine for Script<'_> {
     fn gauges(&mut self) -> Gauges {
         Gauges {
             waiting: 1,
+            under_way: 2,
             longest_wait: Duration::from_millis(1_500),
+            longest_transfer_wait: Duration::from_millis(2_500),
             database: 4_096,
             log: 8_192,
             memory: 12_288,
@@ -123,6 +125,12 @@ impl Machine for Script<'_> {
     ) -> Option<Talked> {
         None
     }
+
+    fn tell(&mut self, _: &mut Client, _: &[u8]) -> Option<usize> {
+        None
+    }
+
+    fn put_aside(&mut self, _: Client, _: u64, _: bool) {}
 
     fn end_turn(&mut self, _: Client, _: u64, _: &Front, end: End) -> Result<Option<End>, Fault> {
         Ok(Some(end))
@@ -424,6 +432,8 @@ fn what_a_socket_does_not_take_is_sent_before_the_end(rt: HostRuntime) {
 /// Lines of a status.
 const STATUS: &[&str] = &[
     "custody_longest_wait_seconds 1.500",
+    "custody_longest_transfer_wait_seconds 2.500",
+    "custody_sending_connections 2",
     "custody_waiting_connections 1",
     "custody_database_bytes{file=\"database\"} 4096",
     "custody_database_bytes{file=\"log\"} 8192",

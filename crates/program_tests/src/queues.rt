@@ -2,14 +2,16 @@
 
 use crate::harness::{Tester, unwrap};
 use outbox::OperatorStream;
-use sockets::{Caller, Client, Course, Extent, Framing, Limits, Queue, listen};
+use sockets::{
+    Caller, Cause, Client, Course, Ended, Extent, Framing, Limits, MessageKind, Queue, listen,
+};
 use std::cell::Cell;
 use std::fs;
 use std::io::{self, Read, Write};
 use std::net::{Shutdown, TcpListener, TcpStream};
 use std::os::unix::net::{UnixListener, UnixStream};
 use std::rt::HostRuntime;
-use std::time::{Clock, Duration};
+use std::time::{Clock, Duration, Instant};
 
 /// Messages of a letter, the number of bytes of the body, the end of the line, and the body.
 #[derive(Clone, Copy)]
@@ -30,7 +32,11 @@ impl Framing for Letters {
             Some(end) => Extent::Message {
                 head: end.saturating_add(1),
                 body: body_of(bytes.get(..end).unwrap_or(&[])),
-                is_transfer: bytes.first() >= Some(&b't'),
+                kind: match bytes.first() {
+                    Some(b't'..=b'v') => MessageKind::Upload,
+                    Some(b'w'..=b'z') => MessageKind::Download,
+                    _ => MessageKind::Short,
+                },
             },
             None if bytes.len() >= 16_384 => Extent::Refused,
             None => Extent::Head,
@@ -62,21 +68,35 @@ fn queue_of<'a>(
     )
 }
 
-/// Reads the message of a client's turn, and ends the turn. Returns the message's letter and its size.
-fn serve(
+/// Reads the message of a client's turn, writes this reply, and ends the turn. Returns the message's letter and its size.
+fn reply(
     host: &HostRuntime,
     clock: &impl Clock,
     queue: &mut Queue<'_>,
     mut client: Client,
+    reply: &[u8],
 ) -> io::Result<(u8, u64)> {
     client.number = Some(1);
     let mut front = client.begin(host.alloc())?;
     let course = Cell::new(Course::new());
-    let (mut reader, _) = queue.stream_pair(&client, host, &course, &mut front);
+    let (mut reader, mut writer) = queue.stream_pair(&mut client, host, &course, &mut front);
     let mut message = Vec::new(host.alloc());
     let size = reader.read_to_end(&mut message)?;
+    for piece in reply.chunks(10_000) {
+        writer.write_all(piece)?;
+    }
     queue.put_back(client, &front, clock, &Letters)?;
     Ok((message.first().copied().unwrap_or(b'?'), size as u64))
+}
+
+/// The same without a reply.
+fn serve(
+    host: &HostRuntime,
+    clock: &impl Clock,
+    queue: &mut Queue<'_>,
+    client: Client,
+) -> io::Result<(u8, u64)> {
+    reply(host, clock, queue, client, b"")
 }
 
 /// Answers a caller. Returns the letter of its message and its size; a minus sign for a connection that ended, and a question
@@ -288,9 +308,44 @@ impl Clock for FastClock<'_> {
     }
 }
 
+/// The clock of a test, from now on.
+fn fast_clock(host: &HostRuntime) -> FastClock<'_> {
+    FastClock {
+        host,
+        looks: Cell::new(0),
+    }
+}
+
+/// Sends a client bytes until his socket takes no more. Returns how many.
+fn fill(rt: &impl Tester, host: &HostRuntime, client: &mut Client) -> usize {
+    let now = unwrap(rt, Instant::now(host));
+    let mut sent = 0_usize;
+    for _ in 0..100_000 {
+        match unwrap(rt, client.send(&[b'a'; 4_096], now)) {
+            0 => break,
+            count => sent = sent.saturating_add(count),
+        }
+    }
+    sent
+}
+
+/// The client whose turn it is.
+fn next_client(rt: &impl Tester, host: &HostRuntime, queue: &mut Queue<'_>) -> Client {
+    match unwrap(rt, queue.take(host, &Letters)) {
+        Some(Caller::Client(client)) => client,
+        _ => panic!(rt; "no client is ready"),
+    }
+}
+
 /// The number of messages of another client, two looks at the clock each, before a client is closed that sends this after
-/// its first message, and nothing more. The other has 100 messages at most.
-fn messages_before_the_end(rt: &impl Tester, host: &HostRuntime, beginning: &[u8]) -> usize {
+/// its first message and nothing more, and takes nothing of this reply; and why it is closed. The other has 100 messages at
+/// most.
+fn messages_before_the_end(
+    rt: &impl Tester,
+    host: &HostRuntime,
+    beginning: &[u8],
+    text: &[u8],
+) -> (usize, Option<Ended>) {
     let listener = unwrap(rt, listen(host, "127.0.0.1:0"));
     let listeners = Listeners {
         clients: &listener,
@@ -300,29 +355,173 @@ fn messages_before_the_end(rt: &impl Tester, host: &HostRuntime, beginning: &[u8
     let mut client = connect(rt, host, &listener);
     let mut other = connect(rt, host, &listener);
     unwrap(rt, client.write_all(b"a0\n"));
-    unwrap(rt, take(host, &mut queue));
+    let mut turn = next_client(rt, host, &mut queue);
+    if !text.is_empty() {
+        fill(rt, host, &mut turn);
+    }
+    unwrap(rt, reply(host, host, &mut queue, turn, text));
     unwrap(rt, client.write_all(beginning));
-    let clock = FastClock {
-        host,
-        looks: Cell::new(0),
-    };
+    let clock = fast_clock(host);
     for count in 0..100 {
         unwrap(rt, other.write_all(b"b0\n"));
         let Some(Caller::Client(turn)) = unwrap(rt, queue.take(&clock, &Letters)) else {
-            assert!(rt; queue.ended().is_some());
-            return count;
+            return (count, queue.ended());
         };
         unwrap(rt, serve(host, &clock, &mut queue, turn));
     }
-    100
+    (100, None)
 }
 
 #[test]
-fn a_client_that_sends_nothing_more_is_closed(rt: HostRuntime) {
+fn a_client_that_does_nothing_more_is_closed(rt: HostRuntime) {
+    let cases = [
+        (b"".as_slice(), b"".as_slice(), Cause::InputEnded),
+        (b"a".as_slice(), b"".as_slice(), Cause::InputEnded),
+        (b"a0\n".as_slice(), b"end".as_slice(), Cause::WriteFailed),
+    ];
     // 30 seconds are 75 messages of the other, or fewer on a slow machine.
-    for beginning in [b"".as_slice(), b"a".as_slice()] {
-        let count = messages_before_the_end(&rt, &rt, beginning);
+    for (beginning, text, cause) in cases {
+        let (count, ended) = messages_before_the_end(&rt, &rt, beginning, text);
         assert!(rt; count > 40 && count < 77, "{count}");
+        assert!(rt; ended.is_some_and(|ended| ended.number == 1 && ended.cause == cause));
+    }
+}
+
+/// Reads so many bytes, and answers who is ready after each read. Returns the bytes and the letters of the messages.
+fn read_beside(
+    rt: &impl Tester,
+    host: &HostRuntime,
+    queue: &mut Queue<'_>,
+    client: &mut TcpStream,
+    size: usize,
+) -> (Vec<u8>, Vec<u8>) {
+    let (mut bytes, mut letters) = (Vec::new(rt.alloc()), Vec::new(rt.alloc()));
+    let mut piece = [0; 4_096];
+    for _ in 0..size {
+        let most = piece.len().min(size.saturating_sub(bytes.len()));
+        if most == 0 {
+            break;
+        }
+        let count = unwrap(rt, client.read(piece.get_mut(..most).unwrap_or(&mut [])));
+        unwrap(
+            rt,
+            bytes.extend_from_slice(piece.get(..count).unwrap_or(&[])),
+        );
+        unwrap(rt, letters.push(unwrap(rt, take_ready(host, queue)).0));
+    }
+    letters.retain(|letter| *letter != b'?');
+    (bytes, letters)
+}
+
+#[test]
+fn a_reply_that_is_not_read_holds_nobody_up(rt: HostRuntime) {
+    let listener = unwrap(&rt, listen(&rt, "127.0.0.1:0"));
+    let listeners = Listeners {
+        clients: &listener,
+        operators: None,
+    };
+    let mut queue = queue_of(&rt, &rt, listeners, 3);
+    let text = long_reply(&rt);
+    let mut client = connect(&rt, &rt, &listener);
+    let mut other = connect(&rt, &rt, &listener);
+    unwrap(&rt, client.write_all(b"a0\na0\n"));
+    let mut turn = next_client(&rt, &rt, &mut queue);
+    let filled = fill(&rt, &rt, &mut turn);
+    unwrap(&rt, reply(&rt, &rt, &mut queue, turn, text.as_slice()));
+    assert!(rt; queue.under_way() == 1 && queue.waiting() == 0);
+    for _ in 0..3 {
+        unwrap(&rt, other.write_all(b"b0\n"));
+        assert!(rt; unwrap(&rt, take(&rt, &mut queue)) == (b'b', 3));
+    }
+    // The next message of the connection is answered when all of the reply is sent.
+    assert!(rt; unwrap(&rt, take_ready(&rt, &mut queue)).0 == b'?');
+    let size = filled.saturating_add(text.len());
+    let (bytes, letters) = read_beside(&rt, &rt, &mut queue, &mut client, size);
+    assert!(rt; bytes.as_slice().get(filled..) == Some(text.as_slice()));
+    assert!(rt; letters.as_slice() == b"a".as_slice());
+    assert!(rt; queue.under_way() == 0);
+}
+
+#[test]
+fn a_reply_is_sent_before_its_connection_is_closed(rt: HostRuntime) {
+    let listener = unwrap(&rt, listen(&rt, "127.0.0.1:0"));
+    let listeners = Listeners {
+        clients: &listener,
+        operators: None,
+    };
+    let mut queue = queue_of(&rt, &rt, listeners, 3);
+    let mut client = connect(&rt, &rt, &listener);
+    unwrap(&rt, client.write_all(b"a0\n"));
+    let mut turn = next_client(&rt, &rt, &mut queue);
+    let filled = fill(&rt, &rt, &mut turn);
+    let mut front = unwrap(&rt, turn.begin(rt.alloc()));
+    let course = Cell::new(Course::new());
+    let (_, mut writer) = queue.stream_pair(&mut turn, &rt, &course, &mut front);
+    unwrap(&rt, writer.write_all(b"end"));
+    assert!(rt; unwrap(&rt, queue.dismiss(turn, &rt, &Letters)));
+    assert!(rt; queue.under_way() == 1);
+    let size = filled.saturating_add(3);
+    let (bytes, _) = read_beside(&rt, &rt, &mut queue, &mut client, size);
+    assert!(rt; bytes.as_slice().get(filled..) == Some(b"end".as_slice()));
+    assert!(rt; unwrap(&rt, take_ready(&rt, &mut queue)).0 == b'?');
+    assert!(rt; unwrap(&rt, client.read(&mut [0])) == 0);
+}
+
+#[test]
+fn a_long_message_is_awaited_whole_unless_it_is_an_upload(rt: HostRuntime) {
+    let listener = unwrap(&rt, listen(&rt, "127.0.0.1:0"));
+    let listeners = Listeners {
+        clients: &listener,
+        operators: None,
+    };
+    let mut queue = queue_of(&rt, &rt, listeners, 3);
+    let half = unwrap(&rt, "a".repeat(rt.alloc(), 100_000));
+    let mut slow = connect(&rt, &rt, &listener);
+    unwrap(&rt, slow.write_all(b"a200000\n"));
+    unwrap(&rt, slow.write_all(half.as_bytes()));
+    let mut other = connect(&rt, &rt, &listener);
+    unwrap(&rt, other.write_all(b"b0\n"));
+    assert!(rt; unwrap(&rt, take(&rt, &mut queue)) == (b'b', 3));
+    unwrap(&rt, slow.write_all(half.as_bytes()));
+    assert!(rt; unwrap(&rt, take(&rt, &mut queue)) == (b'a', 200_008));
+    unwrap(&rt, other.write_all(b"t200000\n"));
+    assert!(rt; unwrap(&rt, queue.take(&rt, &Letters)).is_some());
+}
+
+/// A client that takes nothing of an object is taken again when it is late, or when another one needs its place; and then
+/// nothing can be sent to it.
+#[test]
+fn a_client_that_takes_nothing_of_an_object_is_given_up(rt: HostRuntime) {
+    for (connections, least, most) in [(3, 120, 160), (1, 20, 40)] {
+        let listener = unwrap(&rt, listen(&rt, "127.0.0.1:0"));
+        let listeners = Listeners {
+            clients: &listener,
+            operators: None,
+        };
+        let mut queue = queue_of(&rt, &rt, listeners, connections);
+        let mut client = connect(&rt, &rt, &listener);
+        unwrap(&rt, client.write_all(b"w0\n"));
+        let mut turn = next_client(&rt, &rt, &mut queue);
+        turn.number = Some(7);
+        fill(&rt, &rt, &mut turn);
+        queue.put_aside(turn, false);
+        let _other = connect(&rt, &rt, &listener);
+        let clock = fast_clock(&rt);
+        let mut looks = 0;
+        for count in 0..200 {
+            looks = count;
+            if let Some(Caller::Client(mut turn)) = unwrap(
+                &rt,
+                queue.take_ready(&clock, &Letters),
+            ) {
+                let now = unwrap(&rt, Instant::now(&clock));
+                assert!(rt; turn.number == Some(7) && turn.send(b"a", now).is_err());
+                queue.close(turn);
+                break;
+            }
+        }
+        assert!(rt; looks > least && looks < most, "{looks}");
+        assert!(rt; queue.ended().is_none() && queue.under_way() == 0);
     }
 }
 

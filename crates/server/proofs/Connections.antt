@@ -1,5 +1,5 @@
 -- A talk with a client, as steps of a run.
-use Rattle.std.proofs.Common.{◌≡◌, ◌⊎◌, inl, inr, ℕ, Option, List, [], ◌∷◌, map, refl, sym, ap, subst}
+use Rattle.std.proofs.Common.{◌≡◌, ◌⊎◌, inl, inr, ℕ, Option, None, IfSome, List, [], ◌∷◌, map, refl, sym, ap, subst}
 use Rattle.std.proofs.KnownBytes.{Consumes-nil}
 use Rattle.std.specs.Io.KnownBytes.{Consumes, IsAtEnd}
 use Rattle.store.specs.declared.state.State.{Ghosts}
@@ -12,7 +12,9 @@ use Rattle.refinement.specs.Left.{From, IsBoundedBy}
 use Rattle.refinement.proofs.Leading.{from_weaker}
 use Rattle.service.specs.declared.ends.End.TheVariants.{InputEnded}
 use Rattle.service.specs.declared.ends.Served.{Served}
-use Rattle.service.specs.Served.{Call, IsServed, IsUnserved, Serves, unread_session}
+use Rattle.downloads.specs.declared.download.Download.{Download}
+use Rattle.service.specs.Later.{IsServedBut, ServesBut}
+use Rattle.service.specs.Served.{Call, IsUnserved, unread_session}
 use Rattle.machine.specs.Observations.{Talk}
 use Rattle.operator.specs.Works.{takes, steps_of, bound_of_works}
 use Rattle.operator.proofs.Working.{still_kept, still_steps, works_still}
@@ -46,9 +48,10 @@ unread left rest same = subst (λ (bytes : Option (List ℕ)). Consumes left byt
 
 module _ {S : Type 0} (g : Ghosts S) where
   -- a connection leads the store by the steps of its exchanges, or by none
-  converses : (setting : Setting) (talk : Talk) (before after : ℕ) (a b : S) (world : World) (served : Served) → (served.end ≡ InputEnded → IsAtEnd talk.rest)
-      → Serves g (call_of setting talk before after) world a b served → Converses g setting talk served a b world
-  converses setting talk before after a b world served ended (inl (bytes, read, s)) =
+  converses : (setting : Setting) (talk : Talk) (before after : ℕ) (a b : S) (world : World) (served : Served) (later : Option Download) → (served.end ≡ InputEnded → IsAtEnd talk.rest)
+      → ServesBut g (call_of setting talk before after) world a b later served → Converses g setting talk served later a b world
+  converses setting talk before after a b world served later ended (inl (bytes, read, so)) =
+      let s = so.served_so in
       let events = map exchanged s.exchanges in
       let session : Session = record { setting = setting; bytes = bytes; exchanges = s.exchanges; written = s.written; answered = served.answered } in
       record {
@@ -70,14 +73,15 @@ module _ {S : Type 0} (g : Ghosts S) where
           is = inl s.session;
           steps_are = steps_taken events;
           ended = ended;
+          owes = so.owes;
         };
       }
-  converses setting talk before after a b world served ended (inr (_, same, u)) =
+  converses setting talk before after a b world served later ended (inr (_, same, u, none)) =
       let done = works_still g a b world u.leads in
       record {
         done = done;
         is =
-            subst (λ (w : World). IsTalk setting talk served world (steps_of done.works) w) (sym (still_kept g a b world u.leads))
+            subst (λ (w : World). IsTalk setting talk served later world (steps_of done.works) w) (sym (still_kept g a b world u.leads))
             (record {
               session = unread_session setting u.written served.answered;
               under = refl;
@@ -87,10 +91,11 @@ module _ {S : Type 0} (g : Ghosts S) where
               is = inr u.session;
               steps_are = still_steps g a b world u.leads;
               ended = ended;
+              owes = rw none tt;
             });
       }
 
   -- a talk is a session, by the session theorem
-  pub from_conversed : (setting : Setting) (talk : Talk) (before after : ℕ) (a b : S) (served : Served) → (served.end ≡ InputEnded → IsAtEnd talk.rest)
-      → From g a b (λ world. Serves g (call_of setting talk before after) world a b served) → From g a b (λ world. Converses g setting talk served a b world)
-  from_conversed setting talk before after a b served ended p = from_weaker g a b _ _ (λ world s. converses setting talk before after a b world served ended s) p
+  pub from_conversed : (setting : Setting) (talk : Talk) (before after : ℕ) (a b : S) (served : Served) (later : Option Download) → (served.end ≡ InputEnded → IsAtEnd talk.rest)
+      → From g a b (λ world. ServesBut g (call_of setting talk before after) world a b later served) → From g a b (λ world. Converses g setting talk served later a b world)
+  from_conversed setting talk before after a b served later ended p = from_weaker g a b _ _ (λ world s. converses setting talk before after a b world served later ended s) p

@@ -26,9 +26,10 @@ use Rattle.server.specs.declared.outcomes.Outcome.{Outcome}
 use Rattle.server.specs.declared.outcomes.Outcome.TheVariants.{Unchanged, Stopped, Reloaded, Began}
 use Rattle.server.specs.declared.waiting.Waiting.{Waiting}
 use Rattle.server.specs.Commands.{HasEndedSo, IsAnswered, IsClean, IsGoneOn, IsInspection, IsInspectionFault, IsObeyed, IsReplied, IsRequestDone, IsSentOn, is_stopped, became_of, operator_in, policy_after}
-use Rattle.server.specs.Jobs.{Call, Calls, Helps, IsFor, IsTurn, ServesClean, ServesMore, first_turn, for_caller, seen_in, waiting_after}
-use Rattle.server.proofs.Jobs.{clean_still, from_read, from_turn, helps_read, serves_one}
-use Rattle.sockets.specs.declared.client.Client.{Client}
+use Rattle.server.specs.Jobs.{Call, Calls, Helps, IsClientServed, IsFor, ServerState, ServesClean, ServesMore, first_turn, for_caller, seen_in, server_state, waiting_after}
+use Rattle.transfers.specs.Transfers.{Owed}
+use Rattle.server.proofs.Jobs.{clean_still, from_client, from_own, from_read, helps_read, serves_one}
+use Rattle.clients.specs.declared.client.Client.{Client}
 use Rattle.sockets.specs.declared.queue.Caller.TheVariants.{Operator}
 use Rattle.sockets.specs.declared.queue.Caller.TheVariants as from
 
@@ -79,32 +80,35 @@ module _ {S : Type 0} (g : Ghosts S) where
 
 module _ {M : Type 0} (m : machine.Ghosts M) {S : Type 0} (g : Ghosts S) where
   -- an operator's command, while somebody waits or nobody does
-  pub for_operator : (policy : Policy) (was : Option Waiting) (busy : Bool) (operator : OperatorStream) (outcome : Outcome) (a b : S) (u v : M) → busy ≡ is_some was
-      → From g a b (λ world. Helps m g (IsAnswered policy busy operator outcome) a b u v world) → From g a b (λ world. Helps m g (IsFor policy (operator_in was) (for_caller (Operator operator)) outcome) a b u v world)
-  for_operator policy was busy operator outcome a b u v is p =
-      subst (λ (x : Bool). From g a b (λ world. Helps m g (IsAnswered policy x operator outcome) a b u v world)) (is ∙ busy_is was) p
+  pub for_operator : (policy : Policy) (was : Option Waiting) (owed : List Owed) (busy : Bool) (operator : OperatorStream) (outcome : Outcome) (a b : S) (u v : M) → busy ≡ is_some was
+      → From g a b (λ world. Helps m g (IsAnswered policy busy operator outcome) a b u v world) → From g a b (λ world. Helps m g (IsFor (server_state policy was owed) (for_caller (Operator operator)) outcome owed) a b u v world)
+  for_operator policy was owed busy operator outcome a b u v is p =
+      from_own m g (IsAnswered policy (is_some (operator_in was)) operator outcome) _ a b u v (λ world l steps kept own. (own, refl))
+      (subst (λ (x : Bool). From g a b (λ world. Helps m g (IsAnswered policy x operator outcome) a b u v world)) (is ∙ busy_is was) p)
 
   -- an operator's command, after which the same one waits as before, or nobody
-  pub serves_kept : (policy : Policy) (was : Option Waiting) (busy : Bool) (operator : OperatorStream) (outcome : Outcome) (a b : S) (u v w : M) (count : ℕ) → waiting_after (operator_in was) (for_caller (Operator operator)) outcome ≡ operator_in was
+  pub serves_kept : (policy : Policy) (was : Option Waiting) (owed : List Owed) (busy : Bool) (operator : OperatorStream) (outcome : Outcome) (a b : S) (u v w : M) (count : ℕ) → waiting_after (operator_in was) (for_caller (Operator operator)) outcome ≡ operator_in was
       → m.observed u v (called (Operator operator)) → busy ≡ is_some was → From g a b (λ world. Helps m g (IsAnswered policy busy operator outcome) a b v w world)
-      → From g a b (λ world. ServesClean m g policy was was a b u w world count count (policy_after policy outcome) (is_stopped outcome))
-  serves_kept policy was busy operator outcome a b u v w count same call is p =
-      clean_still m g policy (policy_after policy outcome) was (is_stopped outcome) a b u w count count
-      (subst (λ (who : Option OperatorStream). From g a b (λ world. ServesMore m g policy (operator_in was) a b u w world count count (policy_after policy outcome) who (is_stopped outcome))) same
-      (serves_one m g policy (operator_in was) (Operator operator) outcome a b u v w count count call (search rules) (for_operator policy was busy operator outcome a b v w is p)))
+      → From g a b (λ world. ServesClean m g was was (server_state policy was owed) a b u w world count count (server_state (policy_after policy outcome) was owed) (is_stopped outcome))
+  serves_kept policy was owed busy operator outcome a b u v w count same call is p =
+      clean_still m g (server_state policy was owed) (server_state (policy_after policy outcome) was owed) was (is_stopped outcome) a b u w count count
+      (subst (λ (who : Option OperatorStream). From g a b (λ world. ServesMore m g (server_state policy was owed) a b u w world count count (record { policy = policy_after policy outcome; waiting = who; owed = owed }) (is_stopped outcome))) same
+      (serves_one m g (server_state policy was owed) (Operator operator) outcome owed a b u v w count count call (search rules) (for_operator policy was owed busy operator outcome a b v w is p)))
 
-  -- a client's turn
-  pub serves_turn : (policy : Policy) (was : Option Waiting) (client : Client) (a b : S) (u v w : M) (before after : ℕ) → m.observed u v (called (from.Client client)) → after ≤ before + first_turn (from.Client client)
-      → From g a b (λ world. Helps m g (IsTurn policy client) a b v w world) → From g a b (λ world. ServesClean m g policy was was a b u w world before after policy false)
-  serves_turn policy was client a b u v w before after call few p =
-      clean_still m g policy policy was false a b u w before after (serves_one m g policy (operator_in was) (from.Client client) Unchanged a b u v w before after call few (from_turn m g policy client a b v w p))
+  -- a client's turn, or the next part of what is sent to him
+  pub serves_client : (policy : Policy) (was : Option Waiting) (owed owes : List Owed) (client : Client) (a b : S) (u v w : M) (before after : ℕ) → m.observed u v (called (from.Client client)) → after ≤ before + first_turn (from.Client client)
+      → From g a b (λ world. Helps m g (IsClientServed policy client owed owes) a b v w world)
+      → From g a b (λ world. ServesClean m g was was (server_state policy was owed) a b u w world before after (server_state policy was owes) false)
+  serves_client policy was owed owes client a b u v w before after call few p =
+      clean_still m g (server_state policy was owed) (server_state policy was owes) was false a b u w before after
+      (serves_one m g (server_state policy was owed) (from.Client client) Unchanged owes a b u v w before after call few (from_client m g (server_state policy was owed) client owes a b v w p))
 
   -- an operator whose inspection was begun waits
-  pub serves_begun : (policy : Policy) (was : Option Waiting) (busy : Bool) (operator : OperatorStream) (inspection : Inspection) (a b : S) (u v w : M) (count : ℕ) → m.observed u v (called (Operator operator)) → busy ≡ is_some was
+  pub serves_begun : (policy : Policy) (was : Option Waiting) (owed : List Owed) (busy : Bool) (operator : OperatorStream) (inspection : Inspection) (a b : S) (u v w : M) (count : ℕ) → m.observed u v (called (Operator operator)) → busy ≡ is_some was
       → From g a b (λ world. Helps m g (IsAnswered policy busy operator (Began inspection)) a b v w world)
-      → From g a b (λ world. ServesClean m g policy was (Some (record { stream = operator; inspection = inspection })) a b u w world count count policy false)
-  serves_begun policy was busy operator inspection a b u v w count call is p =
-      let one = serves_one m g policy (operator_in was) (Operator operator) (Began inspection) a b u v w count count call (search rules) (for_operator policy was busy operator (Began inspection) a b v w is p) in
+      → From g a b (λ world. ServesClean m g was (Some (record { stream = operator; inspection = inspection })) (server_state policy was owed) a b u w world count count (server_state policy (Some (record { stream = operator; inspection = inspection })) owed) false)
+  serves_begun policy was owed busy operator inspection a b u v w count call is p =
+      let one = serves_one m g (server_state policy was owed) (Operator operator) (Began inspection) owed a b u v w count count call (search rules) (for_operator policy was owed busy operator (Began inspection) a b v w is p) in
       record {
         honest = p.honest;
         each = λ honest world h clean.

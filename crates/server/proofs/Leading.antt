@@ -1,5 +1,5 @@
 -- To what a server leads its store; for proofs in other crates too.
-use Rattle.std.proofs.Common.{List, [], None}
+use Rattle.std.proofs.Common.{List, []}
 use Rattle.store.specs.declared.state.State.{Ghosts}
 use Rattle.policy.specs.declared.policies.Policy.{Policy}
 use Rattle.model.specs.World.{World}
@@ -7,7 +7,7 @@ use Rattle.refinement.specs.Left.{From}
 use Rattle.refinement.proofs.Leading.{leads_none}
 use Rattle.operator.proofs.Working.{still_kept, still_steps, works_still}
 use Rattle.machine.specs.declared.machine.Machine as machine
-use Rattle.server.specs.Jobs.{Job, Serves, ServesAll}
+use Rattle.server.specs.Jobs.{Job, Serves, ServesAll, first_state}
 
 module _ {S : Type 0} (g : Ghosts S) where
   -- no job
@@ -20,5 +20,5 @@ module _ {S : Type 0} (g : Ghosts S) where
   }
 
   -- the jobs of a server on a machine
-  pub all_jobs : {M : Type 0} (m : machine.Ghosts M) (policy : Policy) (a b : S) (u v : M) (world : World) (jobs : List Job) → Serves m g policy None a b u v world jobs → ServesAll g policy a b world
+  pub all_jobs : {M : Type 0} (m : machine.Ghosts M) (policy : Policy) (a b : S) (u v : M) (world : World) (jobs : List Job) → Serves m g (first_state policy) a b u v world jobs → ServesAll g policy a b world
   all_jobs m policy a b u v world jobs s = record { jobs = jobs; done = s.done; are_jobs = s.are_jobs; steps = s.steps }

@@ -1,10 +1,11 @@
 //! A server over an open store: it does what those who call it ask for, one after the other.
 
-ghost use Rattle.std.specs.Prelude.{◌≡◌, ◌≤◌, ◌+◌, [], if◌then◌else◌, List, None, Some, Ok, Err, false, IfNone, IfOk, IfSome, OnErr};
+ghost use Rattle.std.specs.Prelude.{◌≡◌, ◌≤◌, ◌+◌, [], if◌then◌else◌, List, Some, Ok, Err, false, IfNone, IfOk, IfSome, OnErr};
 ghost use Rattle.std.specs.Bool.{OnTrue};
 ghost use Rattle.refinement.specs.Left.{From};
 ghost use Rattle.server.specs.Commands.{IsAnswered};
-ghost use Rattle.server.specs.Jobs.{Call, Calls, HasFinished, Helps, IsTurn, Job, Serves, ServesClean, Tidies, seen_in, first_turn, has_stopped};
+ghost use Rattle.server.specs.Jobs.{Call, Calls, HasFinished, Helps, IsClientServed, IsTurn, Job, Serves, ServesClean, Tidies, first_state, first_turn, has_stopped, seen_in, server_state};
+ghost use Rattle.transfers.specs.Transfers.{IsNumberOf, owed_in};
 ghost use Rattle.faults.specs.Statuses.{is_reported};
 ghost use Rattle.faults.specs.declared.faults.Fault.TheVariants.{Contents};
 ghost use Rattle.faults.specs.declared.contents_cause.ContentsCause.TheVariants.{Failed};
@@ -20,11 +21,12 @@ use metrics::Counts;
 use outbox::OperatorStream;
 use policy::Policy;
 use service::{End, Routes};
-use sockets::{Caller, Client, Ended};
+use sockets::{Caller, Cause, Client, Ended};
 use std::alloc::Global;
 use std::io::{self, Write};
 use std::time::{Clock, Duration, Instant};
 use store::Store;
+use transfers::{Due, Transfer, Transfers};
 
 /// What a server serves with.
 #[derive(Drop)]
@@ -50,6 +52,8 @@ pub struct Finish {
 /// What a server notes of its turns.
 #[derive(Drop)]
 struct Tally {
+    /// What is left to be sent to clients.
+    transfers: Transfers,
     /// Whether failed uploads may have left something in the store.
     unswept: bool,
     counts: Counts,
@@ -71,17 +75,23 @@ struct Serving<'a, E> {
 }
 
 impl<E: Write> Serving<'_, E> {
-    /// The number of a connection, which it gets for its first turn.
-    fn number_of(&mut self, client: &Client) -> u64
+    /// Counts a client who called, if he had no turn yet.
+    fn count(&mut self, client: &Client)
         ensures begun { self.new.begun ≤ self.old.begun + first_turn (Caller.Client client.now) }
         ensures most { self.new.most ≡ self.old.most }
         ensures policy { self.new.policy ≡ self.old.policy }
+        ensures transfers { self.new.tally.transfers ≡ self.old.tally.transfers }
     {
-        if let Some(number) = client.number {
-            return number;
+        if client.number.is_none() {
+            self.begun = self.begun.saturating_add(1);
         }
-        self.begun = self.begun.saturating_add(1);
-        self.begun
+    }
+
+    /// The number of the connection of a client who was counted.
+    fn number_of(&self, client: &Client) -> u64
+        ensures { IsNumberOf client.now result }
+    {
+        client.number.unwrap_or(self.begun)
     }
 
     /// Whether as many connections had a turn as are to be served.
@@ -93,6 +103,7 @@ impl<E: Write> Serving<'_, E> {
 
     /// Counts a connection that ended, and reports it if it failed; `None` for one that goes on.
     fn note(&mut self, number: u64, end: Option<End>)
+        ensures transfers { self.new.tally.transfers ≡ self.old.tally.transfers }
         ensures begun { self.new.begun ≡ self.old.begun }
         ensures most { self.new.most ≡ self.old.most }
         ensures policy { self.new.policy ≡ self.old.policy }
@@ -110,10 +121,10 @@ impl<E: Write> Serving<'_, E> {
 
 /// How a connection ended that waited for its next message.
 fn end_of(ended: Ended) -> End {
-    if ended.is_failed {
-        End::ReadFailed
-    } else {
-        End::InputEnded
+    match ended.cause {
+        Cause::InputEnded => End::InputEnded,
+        Cause::ReadFailed => End::ReadFailed,
+        Cause::WriteFailed => End::WriteFailed,
     }
 }
 
@@ -143,6 +154,7 @@ fn shut_if<M: Machine>(machine: &mut M, is_full: bool)
 /// Counts a connection that ended between two turns.
 fn note_ended<M: Machine, E: Write>(machine: &mut M, state: &mut Serving<'_, E>)
     ensures machine { M.Machine.idled machine.old machine.new }
+    ensures transfers { state.new.tally.transfers ≡ state.old.tally.transfers }
     ensures begun { state.new.begun ≡ state.old.begun }
     ensures most { state.new.most ≡ state.old.most }
     ensures policy { state.new.policy ≡ state.old.policy }
@@ -213,41 +225,56 @@ impl<C: Clock> Server<'_, C> {
     /// # Errors
     ///
     /// `Clock`.
-    fn serve_turn<S: Store, M: Machine>(
+    fn serve_turn<S: Store, M: Machine, E: Write>(
         &self,
         store: &mut S,
         machine: &mut M,
-        policy: &Policy,
         mut client: Client,
-        number: u64,
-        tally: &mut Tally,
+        state: &mut Serving<'_, E>,
     ) -> Result<Option<End>, Fault>
-        ensures { From S.State store.old store.new (λ world.
-            Helps M.Machine S.State (IsTurn policy.now client)
+        ensures world { From S.State store.old store.new (λ world. Helps M.Machine S.State
+            (IsTurn state.old.policy client
+            (owed_in state.old.tally.transfers) (owed_in state.new.tally.transfers))
             store.old store.new machine.old machine.new world) }
+        ensures begun { state.new.begun ≡ state.old.begun }
+        ensures most { state.new.most ≡ state.old.most }
+        ensures policy { state.new.policy ≡ state.old.policy }
     {
-        tally.unswept = self.sweep_if(store, tally.unswept);
+        let number = state.number_of(&client);
+        state.tally.unswept = self.sweep_if(store, state.tally.unswept);
         let now = machine.moment()?;
         let start = self.instant();
         let context = TurnContext {
             alloc: self.alloc,
             routes: self.routes,
-            policy,
+            policy: &state.policy,
             now,
         };
-        let Some(Talked { turn, front }) = machine.converse(&mut client, store, &context) else {
+        let Some(Talked { turn, front, later }) = machine.converse(&mut client, store, &context)
+        else {
             machine.close(client);
             return Ok(Some(End::ReadFailed));
         };
         let end = turn.served.end;
+        state.tally.counts.count_turn(turn, self.since(start));
+        if let Some(download) = later {
+            let transfer = Transfer {
+                number,
+                download,
+                front,
+            };
+            let due = Due { client, transfer };
+            return Ok(state.tally.transfers.put_aside(machine, due, true));
+        }
         // An upload that was cut off, or that the store refused, is still staged.
-        tally.unswept = tally.unswept || end == End::StoreRefused || !front.is_over();
-        tally.counts.count_turn(turn, self.since(start));
+        let is_left = end == End::StoreRefused || !front.is_over();
+        state.tally.unswept = state.tally.unswept || is_left;
         machine.end_turn(client, number, &front, end)
     }
 
-    /// Serves a turn of a client, and reports if its connection failed. After the first turn of as many connections as
-    /// are to be served, no others are accepted.
+    /// Serves a client who called: sends him the next part if something is left to be sent to him, and else serves a turn.
+    /// Reports if his connection failed. After the first turn of as many connections as are to be served, no others are
+    /// accepted.
     ///
     /// # Errors
     ///
@@ -259,20 +286,31 @@ impl<C: Clock> Server<'_, C> {
         client: Client,
         state: &mut Serving<'_, E>,
     ) -> Result<(), Fault>
-        ensures world { From S.State store.old store.new (λ world.
-            Helps M.Machine S.State (IsTurn state.old.policy client)
+        ensures world { From S.State store.old store.new (λ world. Helps M.Machine S.State
+            (IsClientServed state.old.policy client
+            (owed_in state.old.tally.transfers) (owed_in state.new.tally.transfers))
             store.old store.new machine.old machine.new world) }
         ensures begun { state.new.begun ≤ state.old.begun + first_turn (Caller.Client client) }
         ensures most { state.new.most ≡ state.old.most }
         ensures policy { state.new.policy ≡ state.old.policy }
     {
-        let number = state.number_of(&client);
+        state.count(&client);
         shut_if(machine, state.is_full());
-        let policy = &state.policy;
-        let tally = &mut state.tally;
-        let end = self.serve_turn(store, machine, policy, client, number, tally)?;
-        state.note(number, end);
-        Ok(())
+        let number = state.number_of(&client);
+        match state.tally.transfers.take(client) {
+            Ok(due) => {
+                let start = self.instant();
+                let part = state.tally.transfers.send(self.alloc, store, machine, due)?;
+                state.tally.counts.count_turn(part.turn, self.since(start));
+                state.note(number, part.end);
+                Ok(())
+            }
+            Err(client) => {
+                let end = self.serve_turn(store, machine, client, state)?;
+                state.note(number, end);
+                Ok(())
+            }
+        }
     }
 
     /// Answers an operator, and reports if that failed. Returns what becomes of the server.
@@ -287,6 +325,7 @@ impl<C: Clock> Server<'_, C> {
         ensures world { From S.State store.old store.new (λ world.
             Helps M.Machine S.State (IsAnswered state.old.policy is_busy stream.now result)
             store.old store.new machine.old machine.new world) }
+        ensures transfers { state.new.tally.transfers ≡ state.old.tally.transfers }
         ensures begun { state.new.begun ≡ state.old.begun }
         ensures most { state.new.most ≡ state.old.most }
         ensures policy { state.new.policy ≡ state.old.policy }
@@ -324,9 +363,11 @@ impl<C: Clock> Server<'_, C> {
         waiting: &mut Option<Waiting>,
     ) -> Result<Option<OperatorStream>, Fault>
         ensures world { From S.State store.old store.new (λ world.
-            ServesClean M.Machine S.State state.old.policy waiting.old waiting.new
-            store.old store.new machine.old machine.new world
-            state.old.begun state.new.begun state.new.policy (has_stopped result)) }
+            ServesClean M.Machine S.State waiting.old waiting.new
+            (server_state state.old.policy waiting.old (owed_in state.old.tally.transfers))
+            store.old store.new machine.old machine.new world state.old.begun state.new.begun
+            (server_state state.new.policy waiting.new (owed_in state.new.tally.transfers))
+            (has_stopped result)) }
         ensures most { state.new.most ≡ state.old.most }
     {
         match next_of(machine, waiting.is_some())? {
@@ -365,9 +406,10 @@ impl<C: Clock> Server<'_, C> {
         waiting: &mut Option<Waiting>,
     )
         ensures world { From S.State store.old store.new (λ world.
-            ServesClean M.Machine S.State state.old.policy waiting.old waiting.new
-            store.old store.new machine.old machine.new world
-            state.old.begun state.new.begun state.new.policy false) }
+            ServesClean M.Machine S.State waiting.old waiting.new
+            (server_state state.old.policy waiting.old (owed_in state.old.tally.transfers))
+            store.old store.new machine.old machine.new world state.old.begun state.new.begun
+            (server_state state.new.policy waiting.new (owed_in state.new.tally.transfers)) false) }
         ensures most { state.new.most ≡ state.old.most }
     {
         if let Some(begun) = waiting.take() {
@@ -387,9 +429,11 @@ impl<C: Clock> Server<'_, C> {
         machine: &mut M,
         state: &mut Serving<'_, E>,
     ) -> Result<Finish, Fault>
-        requires { state.now.begun ≡ 0 }
+        requires begun { state.now.begun ≡ 0 }
+        requires owed { owed_in state.now.tally.transfers ≡ [] }
         ensures { From S.State store.old store.new (λ world. (jobs : List Job)
-            × Serves M.Machine S.State state.old.policy None store.old store.new machine.old machine.new world jobs
+            × Serves M.Machine S.State (first_state state.old.policy)
+            store.old store.new machine.old machine.new world jobs
             × HasFinished state.old.most jobs result) }
     {
         let mut waiting = None;
@@ -433,7 +477,7 @@ impl<C: Clock> Server<'_, C> {
         errors: &mut E,
     ) -> Result<Finish, Fault>
         ensures { From S.State store.old store.new (λ world. (jobs : List Job)
-            × Serves M.Machine S.State policy None store.old store.new machine.old machine.new world jobs
+            × Serves M.Machine S.State (first_state policy) store.old store.new machine.old machine.new world jobs
             × HasFinished most jobs result) }
     {
         let mut state = Serving {
@@ -442,6 +486,7 @@ impl<C: Clock> Server<'_, C> {
             begun: 0,
             ended: 0,
             tally: Tally {
+                transfers: Transfers::new(self.alloc),
                 unswept: true,
                 counts: Counts::new(self.instant()),
             },

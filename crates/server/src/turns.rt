@@ -6,7 +6,7 @@ ghost use Rattle.server.specs.Jobs.{Converses};
 use machine::Conversation;
 use names::{Moment, Sink, Source};
 use policy::Policy;
-use service::{Routes, Served};
+use service::{Begun, Routes};
 use std::alloc::Global;
 use store::Store;
 
@@ -20,16 +20,16 @@ pub(crate) struct TurnContext<'a> {
 }
 
 impl Conversation for TurnContext<'_> {
-    ghost leads = { λ context g talk served old new world.
-        Converses g (setting_of context.policy.now context.now) talk served old new world };
+    ghost leads = { λ context g talk served later old new world.
+        Converses g (setting_of context.policy.now context.now) talk served later old new world };
 
     fn hold<S: Store, R: Source, K: Sink>(
         &self,
         store: &mut S,
         source: &mut R,
         sink: &mut K,
-    ) -> Served {
-        service::serve(
+    ) -> Begun {
+        service::begin(
             self.alloc,
             store,
             self.policy,

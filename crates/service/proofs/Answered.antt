@@ -22,12 +22,12 @@ module _ {S : Type 0} (g : Ghosts S) (setting : Setting) (bytes next : List ℕ)
   open_at : (e : Exchange) (close : Bool) → close ≡ false → MatchBool close ((rest : List ℕ) × BeginsWith bytes e.asked rest) (IsFirst bytes e next) → IsFirst bytes e next
   open_at e close stays begins = rw stays at begins
 
-  begun_at : (e : Exchange) (close : Bool) → MatchBool close ((rest : List ℕ) × BeginsWith bytes e.asked rest) (IsFirst bytes e next) → (rest : List ℕ) × BeginsWith bytes e.asked rest
+  pub begun_at : (e : Exchange) (close : Bool) → MatchBool close ((rest : List ℕ) × BeginsWith bytes e.asked rest) (IsFirst bytes e next) → (rest : List ℕ) × BeginsWith bytes e.asked rest
   begun_at e true begins = begins
   begun_at e false first = (next ++ [], begins_now bytes next e first)
 
   -- the turn, after the store was only read
-  turn_then : (e : Exchange) (kept : World) → IsTurn g setting world old mid e kept → Moves g (λ t. t) mid new → AddsNothing g mid new → IsTurn g setting world old new e kept
+  pub turn_then : (e : Exchange) (kept : World) → IsTurn g setting world old mid e kept → Moves g (λ t. t) mid new → AddsNothing g mid new → IsTurn g setting world old new e kept
   turn_then e kept turn same adds = record {
     under = turn.under;
     takes = record {

@@ -4,6 +4,7 @@ pub mod Messages
 pub mod Whole
 pub mod Sent
 pub mod Answered
+pub mod Deferred
 pub mod Serving
 pub mod Plans
 pub mod Responses

@@ -49,7 +49,7 @@ content_or_none (Ok (releases l)) = inr refl
 content_or_none (Err denial) = inr refl
 
 -- a reply whose body is a content serves an object
-serves_content : (given : Answer) {name : List ℕ} {size : ℕ} → content name size ≡ (reply_of given).body → (o : Object) × (given ≡ Ok (serves o))
+pub serves_content : (given : Answer) {name : List ℕ} {size : ℕ} → content name size ≡ (reply_of given).body → (o : Object) × (given ≡ Ok (serves o))
 serves_content (Ok (serves o)) same = (o, refl)
 serves_content (Ok (offers some)) same = absurd (cc)
 serves_content (Ok (stores o)) same = absurd (cc)
@@ -61,7 +61,7 @@ serves_content (Ok (releases l)) same = absurd (cc)
 serves_content (Err denial) same = absurd (cc)
 
 -- the front of a reply with content is its head
-front_is_head : (given : Answer) (allow : List ℕ) (close : Bool) (o : Object) → given ≡ Ok (serves o) → front_text (reply_of given) allow close ≡ head_text (reply_of given) allow close
+pub front_is_head : (given : Answer) (allow : List ℕ) (close : Bool) (o : Object) → given ≡ Ok (serves o) → front_text (reply_of given) allow close ≡ head_text (reply_of given) allow close
 front_is_head given allow close o is =
     let head = head_text (reply_of given) allow close in
     ap (λ (t : List ℕ). head ++ t) (ap (λ a. body_text (reply_of a).body []) is) ∙ append-nil head

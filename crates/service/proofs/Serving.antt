@@ -1,5 +1,10 @@
 -- A connection, message by message.
 use Rattle.service.proofs.Prelude.{◌≡◌, ◌∙◌, ◌+◌, ◌<◌, ℕ, suc, Bool, true, false, List, [], ◌∷◌, ◌++◌, length, take, drop, get_or, map, Option, Some, None, Ok, is_some, option_map, refl, sym, ap, ap₂, subst, append-nil, append_assoc, add-zero, take-append-drop, map-append, Appends, Consumes, Ghosts, World, Object, Setting, Answer, serves, is_store_refusal, reply_of, head_text, Message, message, bad_head, Exchange, Event, exchanged, Run, allow, closes, closes_if, BeginsWith, IsUnfinished, bound_of_run, Session, IsSession, IsWritten, IsPartOf, BreaksInContent, session_text, text_of, text_if, reply_count, appends_both, Holds, Leads, leads_none, run_takes, IsEarly, IsTurn, IsIncomplete, less_than_head, less_than_body, ClosesTurn, EndsTurn, IsServing, IsServed, IsRefusal, IsUnserved, IsLeftOpen, HasNoBadHead, LastRefused, IsClosedAs, closing, end_seen, End, Served}
+use Rattle.std.proofs.lemmas.Grind.{flat_map-append}
+use Rattle.std.proofs.lemmas.Option.{same_Some}
+use Rattle.downloads.specs.declared.download.Download.{Download}
+use Rattle.downloads.specs.Downloads.{closes_of}
+use Rattle.service.specs.Later.{EndsTurnBut, IsServedBut, LastCloses}
 use Rattle.std.proofs.Math.Seq.{drop-cons}
 use Rattle.model.specs.Progress.{IsProgress, fresh, with_exchange}
 use Rattle.model.specs.Views.{SameViews}
@@ -313,6 +318,43 @@ module _ {S : Type 0} (g : Ghosts S) (setting : Setting) (world : World) (was : 
     ends end.StoreRefused turn = shuts end.StoreRefused true refl (λ exchanges last. (tt, last)) turn
     ends end.WriteFailed turn = none_more end.WriteFailed (breaks turn)
     ends end.StoreFailed turn = none_more end.StoreFailed (fails turn)
+
+    -- the connection goes on, so that no content is left to be sent
+    pub answers_but : (later : Option Download) → later ≡ None → EndsTurnBut g setting (waits ++ read) next s.kept mid new is more_is later None
+        → IsServing g setting (bytes ++ read) next world old new was more_is (answered + 1)
+    answers_but later none turn =
+        answers (subst (λ (l : Option Download). EndsTurnBut g setting (waits ++ read) next s.kept mid new is more_is l None) none turn)
+
+    -- the connection ends, and the content of an object is left to be sent
+    owes : (d : Download) → (turn : EndsTurn g setting (waits ++ read) next s.kept mid new is more_is (Some end.StoreFailed))
+        → turn.4.2.written ≡ 0
+        → (fails turn).written ++ turn.4.2.object.bytes ≡ session_text (fails turn).exchanges
+    unfolding fails
+    owes d (e, kept, turn, (rest, first), (given, gave, broke)) none =
+        let o = broke.object in
+        let head = head_text (reply_of (Ok (serves o))) [] (closes e) in
+        let serving : e.given ≡ Some (Ok (serves o)) = gave ∙ ap Some broke.serving in
+        ap (λ n. (s.written ++ (head ++ take n o.bytes)) ++ o.bytes) none
+        ∙ ap (λ (t : List ℕ). (s.written ++ t) ++ o.bytes) (append-nil head)
+        ∙ append_assoc s.written head o.bytes
+        ∙ ap₂ ◌++◌ now.written.written (sym (text_served e o serving ∙ refl) ∙ sym (append-nil (text_of e)))
+        ∙ sym (flat_map-append text_of s.exchanges (e ∷ []))
+
+    -- the last reply says whether the connection is closed after it
+    last_closes : (d : Download) → (turn : EndsTurn g setting (waits ++ read) next s.kept mid new is more_is (Some end.StoreFailed))
+        → closes_of d ≡ closes turn.0 → LastCloses (fails turn).exchanges (closes_of d)
+    unfolding fails
+    last_closes d (e, kept, turn, (rest, first), (given, gave, broke)) same = (s.exchanges, e, refl, sym same)
+
+    pub ends_but : (how : End) (later : Option Download) → EndsTurnBut g setting (waits ++ read) next s.kept mid new is more_is later (Some how)
+        → IsServedBut g setting (bytes ++ read) world old new was more_is later (record { answered = answered + closing how; end = how })
+    unfolding fails
+    ends_but how None turn = record { served_so = ends how turn; owes = tt }
+    ends_but how (Some d) it =
+        let how_is : how ≡ end.StoreFailed = same_Some how end.StoreFailed it.0 in
+        subst (λ (h : End). IsServedBut g setting (bytes ++ read) world old new was more_is (Some d) (record { answered = answered + closing h; end = h })) (sym how_is)
+        (subst (λ (k : ℕ). IsServedBut g setting (bytes ++ read) world old new was more_is (Some d) (record { answered = k; end = end.StoreFailed })) (sym (add-zero answered))
+        (record { served_so = fails it.1; owes = (it.1.4.2.object, it.2, owes d it.1 it.3, last_closes d it.1 it.4) }))
 
 -- there was no memory for the connection
 pub unserved : {S : Type 0} (g : Ghosts S) (setting : Setting) (world : World) (store : S) (was is : Option (List ℕ)) (served : Served) → IsRefusal was is served → Holds g store world

@@ -5,3 +5,4 @@ pub mod Sending
 pub mod Responding
 pub mod Turns
 pub mod Served
+pub mod Later

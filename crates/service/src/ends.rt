@@ -1,5 +1,7 @@
 //! How a connection ended.
 
+use downloads::Download;
+
 /// Why a connection ended.
 #[derive(Clone, Copy, Debug, PartialEq, Eq, Hash)]
 pub enum End {
@@ -24,4 +26,13 @@ pub struct Served {
     pub answered: usize,
     /// Why the connection ended.
     pub end: End,
+}
+
+/// The result of serving a connection, but for the content of an object.
+#[derive(Debug, Drop)]
+pub struct Begun {
+    /// The result so far.
+    pub served: Served,
+    /// The object whose content is left to be sent.
+    pub later: Option<Download>,
 }

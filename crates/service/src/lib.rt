@@ -15,11 +15,12 @@ mod sending;
 mod session;
 mod turn;
 
-pub use ends::{End, Served};
+pub use downloads::Download;
+pub use ends::{Begun, End, Served};
 pub use judging::{Denied, Target, route_of};
 pub use message::{Asked, HeadFault, read_head, read_request};
 pub use model::laws::run_law;
 pub use reading::{LONGEST_MESSAGE, Message, MessageFault, read_message};
 pub use routes::Routes;
 pub use sending::send_reply;
-pub use session::serve;
+pub use session::{begin, serve};

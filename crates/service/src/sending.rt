@@ -1,6 +1,6 @@
 //! Writes a reply to a connection (RFC 9112, Message Format).
 
-ghost use Rattle.std.specs.Prelude.{◌≡◌, ◌≢◌, ◌≤◌, ℕ, List, [], length, Err, OnOk, IfErr};
+ghost use Rattle.std.specs.Prelude.{◌≡◌, ◌≢◌, ◌≤◌, ℕ, List, [], length, Err, OnOk, IfErr, IfSome};
 ghost use Rattle.std.specs.Io.KnownBytes.{Appends};
 ghost use Rattle.names.specs.Streams.{HasGrown, IsBeginning};
 ghost use Rattle.model.specs.Answers.{Answer};
@@ -11,12 +11,15 @@ ghost use Rattle.tables.specs.Staging.{upload_number};
 ghost use Rattle.refinement.specs.Left.{Reads};
 ghost use Rattle.refinement.specs.Staging.{Stores};
 ghost use Rattle.desk.specs.Replies.{IsReply, IsReplyOf, body_seen};
+ghost use Rattle.service.specs.Later.{IsDeferred};
 ghost use Rattle.service.specs.Sending.{front_text, IsThere, Writes, EndsContent, Sends};
 
 use crate::responding::Response;
 use chunks::{PourCause, pour};
 use desk::{Reply, ReplyBody};
+use downloads::Download;
 use names::{ALLOW_LIMIT, RepoName, Sink, WriteFault};
+use std::alloc::Global;
 use store::Store;
 use tables::ObjectRow;
 use uploads::find;
@@ -135,6 +138,21 @@ fn send_object<S: Store, K: Sink>(
             PourCause::Store(_) => expect_whole(fault.written, row.size.get()),
         },
     }
+}
+
+/// The object of which the response has the content, for a caller that sends it later; `None` if the body is no content or an
+/// empty one, if the caller sends none later, or if memory runs out.
+pub(crate) fn deferred(alloc: Global, defers: bool, response: &Response<'_>) -> Option<Download>
+    ensures { IfSome result (λ d. IsDeferred d response.now.repo response.now.reply.body response.now.close) }
+{
+    let ReplyBody::Content(name, size) = &response.reply.body else {
+        return None;
+    };
+    if !defers || size.get() == 0 {
+        return None;
+    }
+    let repo = response.repo?.to_owned(alloc).ok()?;
+    Some(Download::new(repo, *name, *size, response.close))
 }
 
 /// Writes the content of an object of the repository, if the body is one.

@@ -9,12 +9,14 @@ ghost use Rattle.desk.specs.Asking.{setting_of};
 ghost use Rattle.desk.specs.Done.{StaysWithin};
 ghost use Rattle.wire.specs.Connections.{waiting, weight};
 ghost use Rattle.wire.specs.States.{source_of, IsOpen};
-ghost use Rattle.service.specs.Served.{IsServed, IsRefusal, IsCountedAs, Serves, closing};
+ghost use Rattle.service.specs.Later.{IsServedBut, ServesBut};
+ghost use Rattle.service.specs.Served.{IsRefusal, IsCountedAs, Serves, closing};
 
-use crate::ends::{End, Served};
+use crate::ends::{Begun, End, Served};
 use crate::sending::send_reply;
 use crate::turn::{Setting, take_turn};
 use desk::Reply;
+use downloads::Download;
 use names::{Moment, Sink, Source};
 use policy::Policy;
 use routes::Routes;
@@ -24,14 +26,15 @@ use wire::Conn;
 
 /// Answers the messages of the connection in order, up to its end or to a reply that closes it.
 fn answer_all<S: Store, R: Source + Drop, K: Sink>(
-    alloc: Global,
     store: &mut S,
     setting: &Setting<'_>,
     conn: &mut Conn<R>,
     sink: &mut K,
+    later: &mut Option<Download>,
 ) -> Served
     requires open { IsOpen conn.old }
     requires fresh { waiting conn.old ≡ [] }
+    requires none { later.old ≡ None }
     ensures same_reference { R.reference (source_of conn.new) ≡ R.reference (source_of conn.old) }
     ensures input_ended { result.end ≡ End.InputEnded → IsAtEnd (R.left (source_of conn.new)) }
     ensures read_failed { result.end ≡ End.ReadFailed
@@ -41,12 +44,12 @@ fn answer_all<S: Store, R: Source + Drop, K: Sink>(
     ensures counted { IsCountedAs (K.failed sink.old) (K.failed sink.new) result.end }
     ensures served { From S.State store.old store.new (λ world. (bytes : List ℕ)
         × Consumes (R.left (source_of conn.old)) (R.left (source_of conn.new)) bytes
-        × IsServed S.State (setting_of setting.entry.now.policy.now setting.entry.now.now) bytes world
-        store.old store.new (K.taken sink.old) (K.taken sink.new) result) }
+        × IsServedBut S.State (setting_of setting.entry.now.policy.now setting.entry.now.now) bytes world
+        store.old store.new (K.taken sink.old) (K.taken sink.new) later.new result) }
 {
     let mut answered = 0;
     'messages: loop {
-        match take_turn(alloc, store, setting, conn, sink) {
+        match take_turn(store, setting, conn, sink, later) {
             None => answered += 1,
             Some(end) => {
                 return Served {
@@ -84,6 +87,40 @@ fn refuse_all<K: Sink>(sink: &mut K) -> Served
             end: End::WriteFailed,
         },
     }
+}
+
+/// Serves a connection under a setting.
+fn serve_by<S: Store, R: Source, K: Sink>(
+    store: &mut S,
+    setting: &Setting<'_>,
+    source: &mut R,
+    sink: &mut K,
+    later: &mut Option<Download>,
+) -> Served
+    requires { later.old ≡ None }
+    ensures session { From S.State store.old store.new (λ world. ServesBut S.State
+        (record {
+          setting = setting_of setting.entry.now.policy.now setting.entry.now.now;
+          left = R.left source.old;
+          rest = R.left source.new;
+          failed_before = R.failed source.old;
+          failed_after = R.failed source.new;
+          was = K.taken sink.old;
+          is = K.taken sink.new;
+        }) world store.old store.new later.new result) }
+    ensures input_ended { result.end ≡ End.InputEnded → IsAtEnd (R.left source.new) }
+    ensures no_fault { result.end ≢ End.ReadFailed → R.failed source.new ≡ R.failed source.old }
+    ensures read_failed { result.end ≡ End.ReadFailed
+        → HasGrown (R.failed source.old) (R.failed source.new) }
+    ensures counted { IsCountedAs (K.failed sink.old) (K.failed sink.new) result.end }
+{
+    let mut conn = match Conn::new(setting.alloc, source) {
+        Ok(conn) => conn,
+        Err((_, _source)) => return refuse_all(sink),
+    };
+    let served = answer_all(store, setting, &mut conn, sink, later);
+    let _source = conn.into_source();
+    served
 }
 
 /// Serves a connection: answers the messages of the source in order, all at the moment `now`, and
@@ -127,16 +164,50 @@ pub fn serve<S: Store, R: Source, K: Sink>(
         → HasGrown (R.failed source.old) (R.failed source.new) }
     ensures counted { IsCountedAs (K.failed sink.old) (K.failed sink.new) result.end }
 {
-    let mut conn = match Conn::new(alloc, source) {
-        Ok(conn) => conn,
-        Err((_, _source)) => return refuse_all(sink),
-    };
     let setting = Setting {
+        alloc,
         policy,
         routes,
         now,
+        defers: false,
     };
-    let served = answer_all(alloc, store, &setting, &mut conn, sink);
-    let _source = conn.into_source();
-    served
+    let mut later = None;
+    serve_by(store, &setting, source, sink, &mut later)
+}
+
+/// Serves a connection as [`serve`] does, but for the content of an object, which the caller sends: then the connection ends
+/// so far with `StoreFailed`, and its last reply is whole with that content.
+pub fn begin<S: Store, R: Source, K: Sink>(
+    alloc: Global,
+    store: &mut S,
+    policy: &Policy,
+    routes: &Routes,
+    now: Moment,
+    source: &mut R,
+    sink: &mut K,
+) -> Begun
+    ensures session { From S.State store.old store.new (λ world. ServesBut S.State
+        (record {
+          setting = setting_of policy.entry.now now;
+          left = R.left source.old;
+          rest = R.left source.new;
+          failed_before = R.failed source.old;
+          failed_after = R.failed source.new;
+          was = K.taken sink.old;
+          is = K.taken sink.new;
+        }) world store.old store.new result.later result.served) }
+    ensures bounded { From S.State store.old store.new
+        (StaysWithin S.State store.old store.new (policy_view policy.entry.now)) }
+    ensures input_ended { result.served.end ≡ End.InputEnded → IsAtEnd (R.left source.new) }
+{
+    let setting = Setting {
+        alloc,
+        policy,
+        routes,
+        now,
+        defers: true,
+    };
+    let mut later = None;
+    let served = serve_by(store, &setting, source, sink, &mut later);
+    Begun { served, later }
 }

@@ -11,11 +11,13 @@ ghost use Rattle.desk.specs.Replies.{IsReplyOf, is_refused};
 ghost use Rattle.service.specs.Sending.{IsThere};
 ghost use Rattle.wire.specs.Connections.{waiting, weight};
 ghost use Rattle.wire.specs.States.{source_of, IsOpen};
-ghost use Rattle.service.specs.Turns.{IsSent, EndsReply, IsCounted, EndsTurn};
+ghost use Rattle.service.specs.Later.{EndsTurnBut, IsSentBut};
+ghost use Rattle.service.specs.Turns.{IsSent, EndsReply, IsCounted};
 
 use crate::ends::End;
 use crate::responding::{Response, next_response};
-use crate::sending::{SendFault, send};
+use crate::sending::{SendFault, deferred, send, send_reply};
+use downloads::Download;
 use names::{ALLOW_LIMIT, Moment, Sink, Source};
 use policy::Policy;
 use routes::Routes;
@@ -26,9 +28,12 @@ use wire::Conn;
 /// What serves a connection: the policy, the routes, and the moment at which it came.
 #[derive(Clone, Copy)]
 pub(crate) struct Setting<'a> {
+    pub alloc: Global,
     pub policy: &'a Policy,
     pub routes: &'a Routes,
     pub now: Moment,
+    /// Whether the content of an object is left to the caller, who sends it later.
+    pub defers: bool,
     pub ghost in_range: { now ≤ last_moment },
 }
 
@@ -51,16 +56,52 @@ fn deliver<S: Store, K: Sink>(store: &mut S, sink: &mut K, response: &Response<'
     }
 }
 
+/// Writes the response, but for the content of an object if the caller sends that later.
+fn deliver_or_defer<S: Store, K: Sink>(
+    store: &mut S,
+    sink: &mut K,
+    response: &Response<'_>,
+    setting: &Setting<'_>,
+    later: &mut Option<Download>,
+) -> Option<End>
+    requires short { length response.now.allow.now ≤ ALLOW_LIMIT }
+    requires none { later.old ≡ None }
+    ensures sent { Reads S.State store.old store.new (λ world. (given : Answer)
+        → IsReplyOf response.now.reply given → IsThere world response.now.repo given
+        → IsSentBut (K.taken sink.old) (K.taken sink.new) world given response.now.allow.now
+        response.now.close later.new result) }
+    ensures ends { EndsReply response.now.close (is_refused response.now.reply) result }
+    ensures counted { IsCounted (K.failed sink.old) (K.failed sink.new) result }
+    ensures last { result ≡ None → later.new ≡ None }
+{
+    let Some(download) = deferred(setting.alloc, setting.defers, response) else {
+        return deliver(store, sink, response);
+    };
+    // A content in rows is sent in the turn.
+    if download.next(setting.alloc, store, 1).is_none() {
+        return deliver(store, sink, response);
+    }
+    match send_reply(sink, &response.reply, response.allow, response.close) {
+        Ok(()) => {
+            *later = Some(download);
+            Some(End::StoreFailed)
+        }
+        Err(_) => Some(End::WriteFailed),
+    }
+}
+
 /// Answers the next message of the connection and writes the reply. Returns why the connection ends
-/// after it; `None` if it goes on.
+/// after it; `None` if it goes on. If the content of an object is sent later, `later` has the object, and the connection
+/// ends so far as if the store had failed at the first byte of the content.
 pub(crate) fn take_turn<S: Store, R: Source + Drop, K: Sink>(
-    alloc: Global,
     store: &mut S,
     setting: &Setting<'_>,
     conn: &mut Conn<R>,
     sink: &mut K,
+    later: &mut Option<Download>,
 ) -> Option<End>
-    requires { IsOpen conn.old }
+    requires open { IsOpen conn.old }
+    requires none { later.old ≡ None }
     ensures open { result ≡ None → IsOpen conn.new }
     ensures lighter { result ≡ None → weight conn.new < weight conn.old }
     ensures same_reference { R.reference (source_of conn.new) ≡ R.reference (source_of conn.old) }
@@ -70,14 +111,15 @@ pub(crate) fn take_turn<S: Store, R: Source + Drop, K: Sink>(
     ensures no_fault { result ≢ Some End.ReadFailed
         → R.failed (source_of conn.new) ≡ R.failed (source_of conn.old) }
     ensures counted { IsCounted (K.failed sink.old) (K.failed sink.new) result }
+    ensures last { result ≡ None → later.new ≡ None }
     ensures turn { From S.State store.old store.new (λ world. (read : List ℕ)
         × Consumes (R.left (source_of conn.old)) (R.left (source_of conn.new)) read
-        × EndsTurn S.State (setting_of setting.entry.now.policy.now setting.entry.now.now)
+        × EndsTurnBut S.State (setting_of setting.entry.now.policy.now setting.entry.now.now)
         (waiting conn.old ++ read) (waiting conn.new) world
-        store.old store.new (K.taken sink.old) (K.taken sink.new) result) }
+        store.old store.new (K.taken sink.old) (K.taken sink.new) later.new result) }
 {
-    match next_response(alloc, store, setting, conn) {
-        Ok(response) => deliver(store, sink, &response),
+    match next_response(setting.alloc, store, setting, conn) {
+        Ok(response) => deliver_or_defer(store, sink, &response, setting, later),
         Err(end) => Some(end),
     }
 }

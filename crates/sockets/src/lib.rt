@@ -1,17 +1,12 @@
-//! The sockets of a server: where it listens, whose connections it keeps, who is answered next, and how long a connection
-//! waits for its client.
+//! The sockets of a server: where it listens, and whether a client or an operator is answered next.
 //!
 //! Nothing here knows what is said over a socket.
 #![tactic(auto)]
 
-mod client;
 mod listening;
-mod patience;
 mod queue;
-mod room;
 
-pub use client::{Client, Extent, Framing, Front};
+pub use clients::{Cause, Client, Ended, Limits};
+pub use connections::{Course, Extent, Framing, Front, MessageKind, PatientReader, PatientWriter};
 pub use listening::listen;
-pub use patience::{Course, PatientReader, PatientWriter};
 pub use queue::{Caller, Queue};
-pub use room::{Ended, Limits};

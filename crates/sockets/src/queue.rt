@@ -3,9 +3,8 @@
 ghost use Rattle.std.specs.Prelude.{◌≡◌, IfOk, OnErr, IfSome};
 ghost use Rattle.sockets.specs.Turns.{kind_of, other_than, turn_after};
 
-use crate::client::{Client, Framing, Front};
-use crate::patience::{Course, PatientReader, PatientWriter};
-use crate::room::{Ended, LONGEST_LEAVING, Limits, ROUND, Room};
+use clients::{Client, Ended, LONGEST_LEAVING, Limits, ROUND, Room};
+use connections::{Course, Framing, Front, PatientReader, PatientWriter};
 use mio::event::Events;
 use mio::unix::SourceFd;
 use mio::{Interest, Poll, Token};
@@ -90,8 +89,11 @@ pub struct Queue<'a> {
     operators_wait: bool,
     /// Whether the system had no room for an operator since the last look.
     is_short: bool,
-    /// The longest time that a client's message has waited for its turn.
+    /// A client that was accepted, and waits for the place of one that is given up.
+    newcomer: Option<TcpStream>,
+    /// The longest times that a short message of a client, and one with an object, has waited for its turn.
     longest_wait: Duration,
+    longest_transfer_wait: Duration,
     poll: Poll,
     events: Events,
 }
@@ -139,13 +141,16 @@ impl<'a> Queue<'a> {
             clients_wait: false,
             operators_wait: false,
             is_short: false,
+            newcomer: None,
             longest_wait: Duration::ZERO,
+            longest_transfer_wait: Duration::ZERO,
             poll,
             events: Events::with_capacity(rt.alloc(), NEWS)?,
         })
     }
 
-    /// Takes in a client that was accepted, in the place of the one that gives way.
+    /// Takes in a client that was accepted, in the place of the one that gives way. If that one is only given up, the client
+    /// waits until it is closed.
     fn welcome(
         &mut self,
         stream: TcpStream,
@@ -154,21 +159,41 @@ impl<'a> Queue<'a> {
         framing: &impl Framing,
     ) {
         if let Some(key) = gives_way {
-            self.room.remove(key, false);
+            self.room.give_up(key);
         }
-        self.room.enter(&self.poll, stream, now, framing);
+        if self.room.is_full() {
+            self.newcomer = Some(stream);
+        } else {
+            self.room.enter(&self.poll, stream, now, framing);
+        }
+    }
+
+    /// Takes in the client that waits for a place, if one is free.
+    fn admit_newcomer(&mut self, now: Instant, framing: &impl Framing) {
+        if !self.room.is_full()
+            && let Some(stream) = self.newcomer.take()
+        {
+            self.room.enter(&self.poll, stream, now, framing);
+        }
+    }
+
+    /// Whether another client may be accepted, beside those that may be, or in the place of one.
+    fn may_admit(&self, gives_way: Option<usize>) -> bool {
+        let has_place = !self.room.is_full() || gives_way.is_some();
+        self.is_open && self.clients_wait && self.newcomer.is_none() && has_place
     }
 
     /// Accepts the clients that wait at the listener. If there are as many connections as there may be, or if the system
-    /// has no room for one more, that one is closed whose client has sent nothing for the longest time.
+    /// has no room for one more, one gives way.
     fn admit(&mut self, now: Instant, framing: &impl Framing) -> io::Result<()> {
+        self.admit_newcomer(now, framing);
         'clients: for _ in 0..ACCEPTED {
             let gives_way = if self.room.is_full() {
-                self.room.most_silent()
+                self.room.gives_way(now)
             } else {
                 None
             };
-            if !self.is_open || !self.clients_wait || (self.room.is_full() && gives_way.is_none()) {
+            if !self.may_admit(gives_way) {
                 break;
             }
             match self.listener.accept() {
@@ -176,7 +201,7 @@ impl<'a> Queue<'a> {
                 Err(error) if error.kind() == ErrorKind::WouldBlock => self.clients_wait = false,
                 Err(error) if is_passing(error.kind()) => {}
                 Err(error) if is_shortage(&error) => {
-                    if !self.room.evict() {
+                    if !self.room.evict(now) {
                         break;
                     }
                 }
@@ -187,7 +212,7 @@ impl<'a> Queue<'a> {
     }
 
     /// Accepts an operator, if one waits. If the system has no room for him, and no connection can give way, he waits.
-    fn next_operator(&mut self) -> io::Result<Option<Caller>>
+    fn next_operator(&mut self, now: Instant) -> io::Result<Option<Caller>>
         ensures kind { IfOk result (λ found. IfSome found
             (λ caller. kind_of caller ≡ Kind.Operator)) }
         ensures turn { self.new.turn ≡ self.old.turn }
@@ -203,7 +228,7 @@ impl<'a> Queue<'a> {
             }
             Err(error) if is_passing(error.kind()) => Ok(None),
             Err(error) if is_shortage(&error) => {
-                self.is_short = !self.room.evict();
+                self.is_short = !self.room.evict(now);
                 Ok(None)
             }
             Err(error) => Err(error),
@@ -211,26 +236,26 @@ impl<'a> Queue<'a> {
     }
 
     /// The next of this kind, if one is ready.
-    fn next_of(&mut self, kind: Kind) -> io::Result<Option<Caller>>
+    fn next_of(&mut self, kind: Kind, now: Instant) -> io::Result<Option<Caller>>
         ensures kind { IfOk result (λ found. IfSome found (λ caller. kind_of caller ≡ kind)) }
         ensures turn { self.new.turn ≡ self.old.turn }
     {
         match kind {
             Kind::Client => Ok(self.room.take().map(Caller::Client)),
-            Kind::Operator if self.operators_wait => self.next_operator(),
+            Kind::Operator if self.operators_wait => self.next_operator(now),
             Kind::Operator => Ok(None),
         }
     }
 
     /// The next of those who are ready: of the kind whose turn it is, or else of the other. Then it is the turn of the
     /// kind that was not answered, so neither clients nor operators wait for more than one of the others.
-    fn next(&mut self) -> io::Result<Option<Caller>>
+    fn next(&mut self, now: Instant) -> io::Result<Option<Caller>>
         ensures turn { IfOk result (λ found. self.new.turn ≡ turn_after self.old.turn found) }
         ensures err { OnErr result (self.new.turn ≡ self.old.turn) }
     {
-        let found = match self.next_of(self.turn)? {
+        let found = match self.next_of(self.turn, now)? {
             Some(caller) => Some(caller),
-            None => self.next_of(self.turn.other())?,
+            None => self.next_of(self.turn.other(), now)?,
         };
         if let Some(caller) = &found {
             self.turn = caller.kind().other();
@@ -241,15 +266,17 @@ impl<'a> Queue<'a> {
     /// Whether nobody is connected, and nobody waits at the listeners.
     fn is_idle(&self) -> bool {
         let is_empty = self.room.is_empty() && self.outbox.is_empty();
-        is_empty && !self.clients_wait && !self.operators_wait
+        is_empty && self.newcomer.is_none() && !self.clients_wait && !self.operators_wait
     }
 
     /// How long a look for the next one to answer may wait: not at all if there is something to do, and until a connection
     /// may have waited for too long if there are any. `None` is without a limit.
     fn patience(&self) -> Option<Duration> {
         let may_accept = self.operators_wait && !self.is_short;
+        let may_enter = self.newcomer.is_some() && !self.room.is_full();
         let may_send = self.outbox.may_send();
-        if self.room.has_ready() || self.room.has_ended() || may_accept || may_send {
+        let may_serve = self.room.has_ready() || self.room.has_ended();
+        if may_serve || may_enter || may_accept || may_send {
             Some(Duration::ZERO)
         } else if self.is_idle() {
             None
@@ -274,7 +301,7 @@ impl<'a> Queue<'a> {
                 CLIENTS => self.clients_wait = true,
                 OPERATORS => self.operators_wait = true,
                 READERS => self.outbox.wake(),
-                token => self.room.look(token, now, framing),
+                token => self.room.look(token, event.is_writable(), now, framing),
             }
         }
         self.outbox.go_on(now);
@@ -283,11 +310,17 @@ impl<'a> Queue<'a> {
         Ok(now)
     }
 
-    /// Notes how long the caller has waited for his turn.
+    /// Notes how long the caller has waited for his turn, if it is the first one for his message.
     fn note_wait(&mut self, caller: &Caller, now: Instant) {
-        if let Caller::Client(client) = caller {
-            let wait = now.duration_since(client.since());
-            self.longest_wait = self.longest_wait.max(wait);
+        if let Caller::Client(client) = caller
+            && !client.is_in_parts
+        {
+            let longest = if client.is_transfer() {
+                &mut self.longest_transfer_wait
+            } else {
+                &mut self.longest_wait
+            };
+            *longest = now.duration_since(client.since()).max(*longest);
         }
     }
 
@@ -296,9 +329,19 @@ impl<'a> Queue<'a> {
         self.room.waiting()
     }
 
-    /// The longest time that a message of a client has waited for its turn.
+    /// To how many clients an object or the rest of a reply is sent.
+    pub fn under_way(&self) -> usize {
+        self.room.under_way()
+    }
+
+    /// The longest time that a short message of a client has waited for its turn.
     pub fn longest_wait(&self) -> Duration {
         self.longest_wait
+    }
+
+    /// The longest time that the message of an upload or a download has waited for its turn.
+    pub fn longest_transfer_wait(&self) -> Duration {
+        self.longest_transfer_wait
     }
 
     /// Looks once, and waits for at most this long. Returns the next one to answer, if one is ready; `None` if nobody is, or
@@ -313,7 +356,7 @@ impl<'a> Queue<'a> {
         if self.room.has_ended() {
             return Ok(None);
         }
-        let found = self.next()?;
+        let found = self.next(now)?;
         if let Some(caller) = &found {
             self.note_wait(caller, now);
         }
@@ -361,17 +404,20 @@ impl<'a> Queue<'a> {
     /// Accepts no further client, and closes the connections that had no turn.
     pub fn shut(&mut self) {
         self.is_open = false;
+        self.newcomer = None;
         self.room.send_away();
     }
 
-    /// Accepts no further client, and closes the connections that wait for a turn.
+    /// Accepts no further client, and closes the connections that wait for a turn, and the others once their last reply is
+    /// sent.
     pub fn shut_at_once(&mut self) {
         self.is_open = false;
+        self.newcomer = None;
         self.room.send_all_away();
     }
 
-    /// Waits until each client whose connection was closed has closed its side, and until what is left of replies to
-    /// operators is sent, for at most two seconds.
+    /// Waits until what is left of replies to clients and operators is sent, and until each client whose connection was closed
+    /// has closed its side, for at most two seconds.
     ///
     /// # Errors
     ///
@@ -386,6 +432,7 @@ impl<'a> Queue<'a> {
             let now = self.look(longest, clock, framing)?;
             if now.duration_since(start) >= Duration::from_secs(LONGEST_LEAVING) {
                 self.outbox.clear();
+                self.room.clear();
             }
         }
         Ok(())
@@ -428,30 +475,19 @@ impl<'a> Queue<'a> {
         self.outbox.stream_of(operator)
     }
 
-    /// Reads the message of a client's turn, what had arrived first, and writes the reply.
+    /// Reads the message of a client's turn, what had arrived first, and keeps what is written of the reply.
     pub fn stream_pair<'c, C: Clock>(
         &self,
-        client: &'c Client,
+        client: &'c mut Client,
         clock: &'c C,
         course: &'c Cell<Course>,
         front: &'c mut Front,
     ) -> (PatientReader<'c, C>, PatientWriter<'c, C>) {
-        let stream = client.stream();
-        let reader = PatientReader {
-            clock,
-            stream,
-            course,
-            front,
-        };
-        let writer = PatientWriter {
-            clock,
-            stream,
-            course,
-        };
-        (reader, writer)
+        self.room.stream_pair(client, clock, course, front)
     }
 
-    /// Takes a client back after a turn whose message was handed out.
+    /// Takes a client back after a turn whose message was handed out. Its next message is looked at once the reply is sent,
+    /// which nobody waits for.
     ///
     /// # Errors
     ///
@@ -468,9 +504,15 @@ impl<'a> Queue<'a> {
         Ok(())
     }
 
-    /// Closes a connection whose last reply was written. What the client still sends is read and dropped, until it has
-    /// closed its side, for at most two seconds: a close with unread bytes would reset the connection, and the client
-    /// could lose the reply.
+    /// Keeps a client to whom an object is sent in parts. It is ready again once its socket takes some, or at once if `is_due`;
+    /// and also if it takes nothing for too long, but then nothing more can be sent to it.
+    pub fn put_aside(&mut self, client: Client, is_due: bool) {
+        self.room.put_aside(client, is_due);
+    }
+
+    /// Closes a connection once its last reply is sent, which nobody waits for. What the client still sends is then read and
+    /// dropped, until it has closed its side, for at most two seconds: a close with unread bytes would reset the connection,
+    /// and the client could lose the reply. Returns whether the client has not closed the connection.
     ///
     /// # Errors
     ///
@@ -480,12 +522,11 @@ impl<'a> Queue<'a> {
         client: Client,
         clock: &impl Clock,
         framing: &impl Framing,
-    ) -> io::Result<()> {
-        self.room.dismiss(client, Instant::now(clock)?, framing);
-        Ok(())
+    ) -> io::Result<bool> {
+        Ok(self.room.dismiss(client, Instant::now(clock)?, framing))
     }
 
-    /// Closes a connection at once.
+    /// Closes a connection at once. What is left of its replies is sent as far as the socket takes it.
     pub fn close(&mut self, client: Client) {
         self.room.close(client);
     }

@@ -153,6 +153,16 @@ impl<S: Alter> Store for tables::Store<S> {
         }
     }
 
+    fn content_at(
+        &mut self,
+        _alloc: Global,
+        _upload: UploadId,
+        _at: u64,
+        _most: usize,
+    ) -> Result<Option<Vec<u8>>, ReadFault> {
+        Ok(None)
+    }
+
     fn add_chunk(&mut self, upload: UploadId, n: u32, bytes: &[u8]) -> Result<(), StoreFault> {
         tables::Store::add_chunk(self, upload, n, bytes)
     }

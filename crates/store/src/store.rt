@@ -1,16 +1,16 @@
 //! The calls.
 
-ghost use Rattle.std.specs.Prelude.{◌≡◌, ⊤, true, false, length, pos, not, find, filter, take, is_some, option_map, Some, IfOk};
+ghost use Rattle.std.specs.Prelude.{◌≡◌, ◌≤◌, ⊤, true, false, length, pos, not, find, filter, take, is_some, option_map, Some, IfOk, IfSome};
 ghost use Rattle.names.specs.Names.{repo_text, ref_text, path_text, user_text};
 ghost use Rattle.tables.specs.Statements.{is_at, has_id, is_in, is_from, by_id, has_digest, is_held_by, is_for, has_expired, is_object, is_staged, is_chunk, is_retired_as, is_retired_in, by_oid, with_chunk, without_lock, without_expired};
 ghost use Rattle.tables.specs.Steps.{IsLockOf, AreLocksOf, made_of, used_of, asked_lock, outcome_of, read_creation, after_create, IsTokenOf, AreTokensOf, asked_token, has_token, after_add};
 ghost use Rattle.tables.specs.Staging.{upload_number, asked_chunk, staged_with, IsObjectOf, AreUploadsOf, objects_of, without_staged, without_staged_from, completion_of, after_complete};
 ghost use Rattle.tables.specs.Retiring.{after_retire, AreNamesOf};
 ghost use Rattle.tables.specs.Discarding.{after_discard};
-ghost use Rattle.store.specs.Content.{IsContentOf};
+ghost use Rattle.store.specs.Content.{IsContentOf, IsPortion};
 ghost use Rattle.store.specs.Normal.{normal};
 ghost use Rattle.store.specs.ReadFaults.{result_behind};
-ghost use Rattle.store.specs.Shown.{IsHonest, Moves, AddsNothing, Reads, Changes, PutsOr, Begins, Finds, shown};
+ghost use Rattle.store.specs.Shown.{HasTables, IsHonest, IsOpen, Moves, AddsNothing, Reads, Changes, PutsOr, Begins, Finds, shown};
 
 use crate::content::ChunkContent;
 use crate::read_fault::ReadFault;
@@ -267,6 +267,27 @@ pub trait Store: State {
         ensures { Reads Self.State self.old self.new (result_behind result)
             (λ t found. IsContentOf found
             (find (is_chunk (upload_number upload) (pos n)) t.chunks)) };
+
+    /// Returns bytes of the content of an upload from the byte `at` on, at most `most` of them, in one read; `None` if the
+    /// content is in rows, where its chunks are read one by one.
+    ///
+    /// # Errors
+    ///
+    /// `Unreadable` if the file of contents fails to return them, but answers other calls; `Refused` or `Memory`. The
+    /// tables are unchanged in any case.
+    fn content_at(
+        &mut self,
+        alloc: Global,
+        upload: UploadId,
+        at: u64,
+        most: usize,
+    ) -> Result<Option<Vec<u8>>, ReadFault>
+        ensures answers { IsHonest Self.State self.new → HasTables Self.State self.old
+            → IfOk result (λ found. IfSome found (λ bytes. IsOpen Self.State self.old
+            × IsPortion (upload_number upload) at bytes.items (shown Self.State self.old))) }
+        ensures few { IfOk result (λ found. IfSome found (λ bytes. length bytes.items ≤ most)) }
+        ensures same { Moves Self.State (λ t. t) self.old self.new }
+        ensures adds { AddsNothing Self.State self.old self.new };
 
     /// Adds a chunk to the upload, under this number. The numbers of an upload's chunks count from 0 up. Until the
     /// upload is complete, a stop may leave none of its chunks.

@@ -1,5 +1,6 @@
-use Rattle.service.proofs.Prelude.{◌∙◌, ◌+◌, ◌++◌, [], ℕ, arith, refl, subst, sym, Consumes-nil, Consumes-trans, waiting, source_of, setting_of, IsServed}
-use Rattle.service.proofs.Serving.{begins, answers, ends}
+use Rattle.service.proofs.Prelude.{◌∙◌, ◌+◌, ◌++◌, [], ℕ, arith, refl, subst, sym, Consumes-nil, Consumes-trans, waiting, source_of, setting_of}
+use Rattle.service.specs.Later.{IsServedBut}
+use Rattle.service.proofs.Serving.{begins, answers_but, ends_but}
 use Rattle.service.proofs.session.answer_all.Goals as goal
 
 pub messages-init : goal.messages-init
@@ -9,6 +10,7 @@ messages-init g c = record {
   count = omega arith;
   no_fault = refl;
   good = refl;
+  none = c.requires.none;
   serving = record {
     honest = λ k. k;
     each = λ honest world h. (
@@ -32,6 +34,7 @@ messages-preserved g c =
       count = omega (arith, i.count, t.lighter refl);
       no_fault = t.no_fault (λ e. cc) ∙ i.no_fault;
       good = t.counted ∙ i.good;
+      none = t.last refl;
       serving = record {
         honest = λ k. i.serving.honest (t.turn.honest k);
         each = λ honest world h.
@@ -40,8 +43,8 @@ messages-preserved g c =
             let turn = t.turn.each honest s.kept s.leads.holds in (
               it.0 ++ turn.0,
               Consumes-trans (g.R.Source.left (source_of old)) (g.R.Source.left (source_of mid)) (g.R.Source.left (source_of new)) it.0 turn.0 it.1 turn.1,
-              answers g.S.State (setting_of c.args.setting.now.policy.now c.args.setting.now.now) world (g.K.Sink.taken c.args.sink.now) it.0 (waiting mid) turn.0 (waiting new)
-                  c.args.store.now c.messages.store c.take_turn.new.store (g.K.Sink.taken c.messages.sink) (g.K.Sink.taken c.take_turn.new.sink) c.messages.answered s turn.2,
+              answers_but g.S.State (setting_of c.args.setting.now.policy.now c.args.setting.now.now) world (g.K.Sink.taken c.args.sink.now) it.0 (waiting mid) turn.0 (waiting new)
+                  c.args.store.now c.messages.store c.take_turn.new.store (g.K.Sink.taken c.messages.sink) (g.K.Sink.taken c.take_turn.new.sink) c.messages.answered s c.take_turn.new.later (t.last refl) turn.2,
             );
       };
     }
@@ -62,9 +65,9 @@ returns-in-Some-clause-served g c =
           let turn = t.turn.each honest s.kept s.leads.holds in (
             it.0 ++ turn.0,
             Consumes-trans (g.R.Source.left (source_of old)) (g.R.Source.left (source_of mid)) (g.R.Source.left (source_of new)) it.0 turn.0 it.1 turn.1,
-            subst (λ (k : ℕ). IsServed g.S.State setting (it.0 ++ turn.0) world c.args.store.now c.take_turn.new.store (g.K.Sink.taken c.args.sink.now) (g.K.Sink.taken c.take_turn.new.sink)
+            subst (λ (k : ℕ). IsServedBut g.S.State setting (it.0 ++ turn.0) world c.args.store.now c.take_turn.new.store (g.K.Sink.taken c.args.sink.now) (g.K.Sink.taken c.take_turn.new.sink) c.take_turn.new.later
                 (record { answered = c.messages.answered + k; end = c.in-Some.end })) (sym c.closing.ensures)
-                (ends g.S.State setting world (g.K.Sink.taken c.args.sink.now) it.0 (waiting mid) turn.0 (waiting new) c.args.store.now c.messages.store c.take_turn.new.store
-                (g.K.Sink.taken c.messages.sink) (g.K.Sink.taken c.take_turn.new.sink) c.messages.answered s c.in-Some.end turn.2),
+                (ends_but g.S.State setting world (g.K.Sink.taken c.args.sink.now) it.0 (waiting mid) turn.0 (waiting new) c.args.store.now c.messages.store c.take_turn.new.store
+                (g.K.Sink.taken c.messages.sink) (g.K.Sink.taken c.take_turn.new.sink) c.messages.answered s c.in-Some.end c.take_turn.new.later turn.2),
           );
     }

@@ -1,12 +1,13 @@
 use Rattle.service.proofs.Prelude.{◌++◌, refl, from_weaker, waiting, setting_of}
-use Rattle.service.proofs.Answered.{sent, unanswered}
+use Rattle.service.proofs.Deferred.{sent_but}
+use Rattle.service.proofs.Answered.{unanswered}
 use Rattle.service.proofs.turn.take_turn.Goals as goal
 
 pub returns-in-Ok-clause-turn : goal.returns-in-Ok-clause-turn
 returns-in-Ok-clause-turn g c =
     let s = c.args.setting.now in
     let turn = c.in-Ok.ensures.turn in
-    let read = c.deliver.ensures.sent in
+    let read = c.deliver_or_defer.ensures.sent in
     record {
       honest = λ k. turn.honest (read.same.was_honest k);
       each = λ honest world h.
@@ -14,8 +15,8 @@ returns-in-Ok-clause-turn g c =
           let a = it.2 in (
             it.0,
             it.1,
-            sent g.S.State (setting_of s.policy.now s.now) (waiting c.args.conn.now ++ it.0) (waiting c.next_response.new.conn) world c.args.store.now c.next_response.new.store c.deliver.new.store
-                (g.K.Sink.taken c.args.sink.now) (g.K.Sink.taken c.deliver.new.sink) c.in-Ok.response c.deliver.result a read.same read.adds c.deliver.ensures.ends
+            sent_but g.S.State (setting_of s.policy.now s.now) (waiting c.args.conn.now ++ it.0) (waiting c.next_response.new.conn) world c.args.store.now c.next_response.new.store c.deliver_or_defer.new.store
+                (g.K.Sink.taken c.args.sink.now) (g.K.Sink.taken c.deliver_or_defer.new.sink) c.in-Ok.response c.deliver_or_defer.new.later c.deliver_or_defer.result a read.same read.adds c.deliver_or_defer.ensures.ends
                 (read.each honest a.kept a.turn.takes.leads.holds a.given a.is_reply a.there),
           );
     }
@@ -24,7 +25,7 @@ pub returns-in-Err-clause-turn : goal.returns-in-Err-clause-turn
 returns-in-Err-clause-turn g c =
     from_weaker g.S.State c.args.store.now c.next_response.new.store _ _
     (λ world it.
-    let s = c.args.setting.now in (
+    let s = c.args.setting.now in rw c.requires.none (
       it.0,
       it.1,
       unanswered g.S.State (setting_of s.policy.now s.now) (waiting c.args.conn.now ++ it.0) (waiting c.next_response.new.conn) world c.args.store.now c.next_response.new.store

@@ -1,11 +1,12 @@
 //! How long the reads and writes of a connection wait for a client.
 
-ghost use Rattle.std.specs.Prelude.{◌≡◌, is_some};
+ghost use Rattle.std.specs.Prelude.{◌≡◌, ◌≤◌, is_some, length, IfOk};
 ghost use Rattle.std.specs.Duration.{as_nanos};
-ghost use Rattle.std.specs.Io.{ReadsAtMost};
-ghost use Rattle.sockets.specs.Waiting.{allowance, elapsed, may_wait};
+ghost use Rattle.std.specs.Io.{ReadsAtMost, WritesAtMost};
+ghost use Rattle.connections.specs.Waiting.{allowance, elapsed, may_wait};
 
-use crate::client::Front;
+use crate::backlog::Backlog;
+use crate::front::Front;
 use std::cell::Cell;
 use std::io::{self, ErrorKind, Read, Write};
 use std::net::TcpStream;
@@ -66,11 +67,30 @@ fn allowance(elapsed: Duration, moved: u64) -> Duration
 
 /// Whether a call of the socket ended without an error of the connection: its time was over, or a
 /// signal came.
-pub(crate) fn is_pause(kind: ErrorKind) -> bool {
+pub fn is_pause(kind: ErrorKind) -> bool {
     matches!(
         kind,
         ErrorKind::WouldBlock | ErrorKind::TimedOut | ErrorKind::Interrupted
     )
+}
+
+/// Writes bytes to a socket that does not wait. Returns how many it took: none if it has no room.
+///
+/// # Errors
+///
+/// Fails if the client has closed the connection.
+pub fn write_now(stream: &TcpStream, bytes: &[u8]) -> io::Result<usize>
+    ensures { IfOk result (λ count. count ≤ length bytes.now) }
+{
+    let mut stream = stream;
+    'tries: for _ in 0..u64::MAX {
+        match stream.write(bytes) {
+            Err(error) if error.kind() == ErrorKind::Interrupted => {}
+            Err(error) if is_pause(error.kind()) => return Ok(0),
+            written => return written,
+        }
+    }
+    Ok(0)
 }
 
 impl Course {
@@ -88,14 +108,14 @@ impl Course {
     }
 
     /// Whether a byte was read or written.
-    pub(crate) fn has_begun(&self) -> bool
+    pub fn has_begun(&self) -> bool
         ensures { result ≡ is_some self.now.since }
     {
         self.since.is_some()
     }
 
     /// The same, which began at this moment if it had not begun.
-    pub(crate) fn begun(self, now: Instant) -> Course {
+    pub fn begun(self, now: Instant) -> Course {
         Course {
             since: Some(self.since.unwrap_or(now)),
             ..self
@@ -103,11 +123,31 @@ impl Course {
     }
 
     /// The same, as if it had begun at this moment, if it had begun.
-    pub(crate) fn anew(self, now: Instant) -> Course {
+    pub fn anew(self, now: Instant) -> Course {
         Course {
             since: self.since.map(|_| now),
             ..self
         }
+    }
+
+    /// The course of a reply: the same if it is one, and else one that begins now.
+    pub fn of_reply(self, now: Instant) -> Course {
+        match self.activity {
+            Activity::Reply => self.begun(now),
+            Activity::Message => Course::of(Activity::Reply).begun(now),
+        }
+    }
+
+    /// Whether replies are written.
+    pub fn is_reply(&self) -> bool {
+        self.activity == Activity::Reply
+    }
+
+    /// When it began; `None` if it has not begun.
+    pub fn start(&self) -> Option<Instant>
+        ensures { result ≡ self.now.since }
+    {
+        self.since
     }
 
     /// How long it had taken at this moment.
@@ -118,7 +158,7 @@ impl Course {
     }
 
     /// The same, after `count` more bytes.
-    pub(crate) fn advanced(self, count: usize) -> Course {
+    pub fn advanced(self, count: usize) -> Course {
         Course {
             moved: self.moved.saturating_add(count as u64),
             ..self
@@ -126,7 +166,7 @@ impl Course {
     }
 
     /// Whether a read or a write that began at `start` may still wait.
-    pub(crate) fn may_wait(&self, start: Instant, now: Instant) -> bool
+    pub fn may_wait(&self, start: Instant, now: Instant) -> bool
         ensures { result ≡ may_wait self.now.since self.now.moved start now }
     {
         let most = allowance(self.elapsed(start), self.moved);
@@ -139,13 +179,13 @@ impl Course {
 #[derive(Drop)]
 pub struct PatientReader<'a, C: Clock> {
     /// The clock of the limits.
-    pub(crate) clock: &'a C,
+    pub clock: &'a C,
     /// The client's connection.
-    pub(crate) stream: &'a TcpStream,
+    pub stream: &'a TcpStream,
     /// What the connection is occupied with.
-    pub(crate) course: &'a Cell<Course>,
+    pub course: &'a Cell<Course>,
     /// What arrived before.
-    pub(crate) front: &'a mut Front,
+    pub front: &'a mut Front,
 }
 
 impl<C: Clock> PatientReader<'_, C> {
@@ -202,46 +242,80 @@ impl<C: Clock> Read for PatientReader<'_, C> {
 }
 
 /// Writes to a client for as long as it may take. Then a write fails.
+fn wait_to_write<C: Clock>(
+    clock: &C,
+    stream: &TcpStream,
+    course: &Cell<Course>,
+    piece: &[u8],
+) -> io::Result<usize>
+    ensures { WritesAtMost result piece.now }
+{
+    let start = Instant::now(clock)?;
+    let begun = course.get().of_reply(start);
+    let mut stream = stream;
+    'slices: for _ in 0..u64::MAX {
+        match stream.write(piece) {
+            Ok(count) => {
+                course.set(begun.advanced(count));
+                return Ok(count);
+            }
+            Err(error) if is_pause(error.kind()) => {}
+            Err(error) => return Err(error),
+        }
+        if !begun.may_wait(start, Instant::now(clock)?) {
+            break;
+        }
+    }
+    Err(ErrorKind::TimedOut.into())
+}
+
+impl Backlog {
+    /// Writes all of it to the client.
+    fn wait_to_send<C: Clock>(
+        &mut self,
+        clock: &C,
+        stream: &TcpStream,
+        course: &Cell<Course>,
+    ) -> io::Result<()> {
+        'pieces: for _ in 0..u64::MAX {
+            if self.is_empty() {
+                break;
+            }
+            let count = wait_to_write(clock, stream, course, self.as_slice())?;
+            if count == 0 {
+                return Err(ErrorKind::WriteZero.into());
+            }
+            self.advance(count);
+        }
+        Ok(())
+    }
+}
+
+/// Keeps what is written to a client, which is sent after the turn. If that is too much, or if there is no memory for it, it
+/// is written to the client for as long as it may take. Then a write fails.
 #[derive(Drop)]
 pub struct PatientWriter<'a, C: Clock> {
     /// The clock of the limits.
-    pub(crate) clock: &'a C,
+    pub clock: &'a C,
     /// The client's connection.
-    pub(crate) stream: &'a TcpStream,
+    pub stream: &'a TcpStream,
     /// What the connection is occupied with.
-    pub(crate) course: &'a Cell<Course>,
-}
-
-impl<C: Clock> PatientWriter<'_, C> {
-    /// What the connection is occupied with in a write that begins now.
-    fn course_at(&self, now: Instant) -> Course {
-        let course = self.course.get();
-        match course.activity {
-            Activity::Reply => course.begun(now),
-            Activity::Message => Course::of(Activity::Reply).begun(now),
-        }
-    }
+    pub course: &'a Cell<Course>,
+    /// What was written, and is not sent yet.
+    pub unsent: &'a mut Backlog,
+    /// Whether nothing more is kept.
+    pub writes_through: bool,
 }
 
 impl<C: Clock> Write for PatientWriter<'_, C> {
     fn write(&mut self, piece: &[u8]) -> io::Result<usize> {
-        let start = Instant::now(self.clock)?;
-        let course = self.course_at(start);
-        let mut stream = self.stream;
-        'slices: for _ in 0..u64::MAX {
-            match stream.write(piece) {
-                Ok(count) => {
-                    self.course.set(course.advanced(count));
-                    return Ok(count);
-                }
-                Err(error) if is_pause(error.kind()) => {}
-                Err(error) => return Err(error),
-            }
-            if !course.may_wait(start, Instant::now(self.clock)?) {
-                break;
-            }
+        if !self.writes_through && self.unsent.push(piece) {
+            return Ok(piece.len());
         }
-        Err(ErrorKind::TimedOut.into())
+        self.writes_through = true;
+        let (clock, stream, course) = (self.clock, self.stream, self.course);
+        self.unsent.wait_to_send(clock, stream, course)?;
+        wait_to_write(clock, stream, course, piece)
     }
 
     fn flush(&mut self) -> io::Result<()> {

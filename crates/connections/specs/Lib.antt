@@ -1,0 +1,3 @@
+pub mod Backlog
+pub mod Messages
+pub mod Waiting
