@@ -98,6 +98,9 @@ SUITES = [
           8, quick=("--rounds", "1", "--connections", "200", "--requests", "20000",
                     *only("pipelined", "keep-alive", "one-connection", "idle-end", "early-reply", "reset", "killed",
                           "terminated", "load"))),
+    Suite("giving-way", "tests.server.giving_way", "Locks wait for no download, and nobody for one who does not read.",
+          5, quick=("--rounds", "2", "--form", "file", *only(
+              "beside-pulls", "beside-pushes", "unread", "retired", "pipelined", "closes", "killed", "stopped"))),
     Suite("control", "tests.server.control", "Commands by the control socket act beside the clients of a server.",
           4, ("strace",), quick=("--rounds", "5", "--tokens", "20", *only(
               "same-words", "only-the-user", "stale", "no-server", "terminal", "idle-client", "under-load", "damaged",

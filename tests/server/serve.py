@@ -18,7 +18,7 @@ import time
 
 from tests.studio.checks import Failed, arguments, beside, judge_on_forms, require, within
 from tests.studio.policy import policy, row, WORK
-from tests.studio.program import LOCKS, Server, content, lock, message, name_of, put
+from tests.studio.program import LOCKS, Server, content, lock, message, name_of, put, raise_limit
 
 
 def check_pipelined(server, _):
@@ -103,11 +103,6 @@ def ask_always(server, is_over, counts):
                 require(client.reply()[0] in (201, 409), "a busy client got something else")
                 counts["busy"] += 1
         counts["whole"] += 1
-
-
-def raise_limit():
-    """Lets this process have as many files as it may."""
-    resource.setrlimit(resource.RLIMIT_NOFILE, (resource.getrlimit(resource.RLIMIT_NOFILE)[1],) * 2)
 
 
 def check_crowd(server, _):

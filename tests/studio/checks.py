@@ -100,25 +100,27 @@ def judge_on_server(checks, options, start):
     return judge_each(checks, options, act)
 
 
-def judge_forms(names, options, act):
-    """Judges `act` of each of the names with each form of a database, or of those that the options name. Returns the
-    status of the suite."""
+def judge_forms(names, options, act, of_a_file=()):
+    """Judges `act` of each of the names with each form of a database, or of those that the options name; of some with a
+    file alone. Returns the status of the suite."""
     checks = Checks()
     for name in options.only or names:
         for form in options.form or FORMS:
-            checks.judge(f"{name}, {form}", lambda: act(name, form))
+            if form == "file" or name not in of_a_file:
+                checks.judge(f"{name}, {form}", lambda: act(name, form))
     return checks.end()
 
 
-def judge_on_forms(checks, options, start):
-    """Judges each of the checks on servers with a database of each form. `start` takes the form too."""
+def judge_on_forms(checks, options, start, of_a_file=()):
+    """Judges each of the checks on servers with a database of each form, and some with a file alone. `start` takes the
+    form too."""
 
     def act(name, form):
         """What the check measured."""
         with tempfile.TemporaryDirectory() as room:
             return measured_on(checks[name], options, start(options.program, room, form))
 
-    return judge_forms(checks, options, act)
+    return judge_forms(checks, options, act, of_a_file)
 
 
 @contextlib.contextmanager

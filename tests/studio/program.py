@@ -3,6 +3,7 @@ import contextlib
 import hashlib
 import json
 import random
+import resource
 import select
 import signal
 import socket
@@ -35,6 +36,11 @@ def listening(port):
     """Whether somebody listens on the port."""
     with socket.socket() as probe:
         return probe.connect_ex(("127.0.0.1", port)) == 0
+
+
+def raise_limit():
+    """Lets this process have as many files and sockets as it may."""
+    resource.setrlimit(resource.RLIMIT_NOFILE, (resource.getrlimit(resource.RLIMIT_NOFILE)[1],) * 2)
 
 
 def memory_of(process, field="VmRSS"):
