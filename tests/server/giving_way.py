@@ -11,6 +11,7 @@ import hashlib
 import json
 import os
 import random
+import re
 import signal
 import socket
 import sys
@@ -366,11 +367,17 @@ def batch(count, filler=0):
     return message("POST", target("objects/batch"), {"operation": "upload", "objects": objects, "more": "x" * filler})
 
 
+def without_seconds(body):
+    """The body of a batch without the seconds for which its token is still valid."""
+    return re.sub(rb'"expires_in":[0-9]+', b'"expires_in":0', body)
+
+
 def expect_replies(client, want, count):
-    """Reads replies, which have to have the same status and body."""
+    """Reads replies, which have to have the same status and body, but for the seconds for which a token is valid."""
     for _ in range(count):
         status, body = client.reply()
-        require((status, len(body)) == (want[0], len(want[1])) and body == want[1], f"a reply is {status}: {body[:100]}")
+        same = status == want[0] and without_seconds(body) == without_seconds(want[1])
+        require(same, f"a reply is {status}: {body[:100]}")
 
 
 def ask_unread(server, held, requests, count):
@@ -394,7 +401,9 @@ def check_slow_replies(server, _):
     require(all(status == 200 for status, _ in want), f"a list or a batch was refused: {want[0][:1]}, {want[1][:1]}")
     with contextlib.ExitStack() as held:
         clients = ask_unread(server, held, [kind * 4 for kind in kinds], 200)
-        result = slowest_lock(server, 0.1, "200 clients that do not read lists and batches")
+        # What has arrived before a lock is answered before it, which is a second of work. Nobody waits 30 seconds for a
+        # client that does not read.
+        result = slowest_lock(server, 5, "200 clients that do not read lists and batches")
         for number, client in enumerate(clients):
             if number % 2:
                 expect_replies(client, want[1], 4)
@@ -411,8 +420,9 @@ def check_many_replies(server, _):
     want = server.ask(kind)
     with contextlib.ExitStack() as held:
         clients = ask_unread(server, held, [kind * 2], 500)
-        # Those who have taken nothing for 5 seconds are closed while there are too many.
-        result = slowest_lock(server, 8, "500 clients that do not read batches")
+        # What has arrived before a lock is answered before it: 500 batches, of 18 ms each. While there is too much of
+        # replies, those are closed whose reply has been sent for 5 seconds.
+        result = slowest_lock(server, 20, "500 clients that do not read batches")
         more, read = server.peak() - before, 0
         for client in clients:
             with contextlib.suppress(OSError):
@@ -446,7 +456,7 @@ def check_many_bodies(server, _):
             client.socket.settimeout(1)
             with contextlib.suppress(OSError):
                 client.send(text[:-1])
-        result = slowest_lock(server, 0.1, "200 clients that have sent almost 1 MiB of a batch")
+        result = slowest_lock(server, 0.5, "200 clients that have sent almost 1 MiB of a batch")
         more, answered = server.peak() - before, 0
         for client in clients:
             with contextlib.suppress(OSError):
