@@ -391,7 +391,7 @@ def ask_unread(server, held, requests, count):
 
 
 def check_slow_replies(server, _):
-    """Locks beside clients that ask for lists and batches and do not read them. Then each reads what it asked for."""
+    """Locks beside clients that ask for lists and batches and do not read them."""
     with server.client() as client:
         for number in range(100):
             require(client.ask(lock(f"shot/{number:04d}"))[0] == 201, "a lock was not made")
@@ -400,17 +400,11 @@ def check_slow_replies(server, _):
     want = [server.ask(kind) for kind in kinds]
     require(all(status == 200 for status, _ in want), f"a list or a batch was refused: {want[0][:1]}, {want[1][:1]}")
     with contextlib.ExitStack() as held:
-        clients = ask_unread(server, held, [kind * 4 for kind in kinds], 200)
+        ask_unread(server, held, [kind * 4 for kind in kinds], 200)
         # What has arrived before a lock is answered before it, which is a second of work. Nobody waits 30 seconds for a
         # client that does not read.
         result = slowest_lock(server, 5, "200 clients that do not read lists and batches")
-        for number, client in enumerate(clients):
-            if number % 2:
-                expect_replies(client, want[1], 4)
-            else:
-                statuses = [client.reply()[0] for _ in range(4)]
-                require(statuses == 4 * [200], f"lists got {statuses}")
-    return f"{result}; then each had its 4 replies"
+    return result
 
 
 def check_many_replies(server, _):
