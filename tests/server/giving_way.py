@@ -26,6 +26,8 @@ SIZE, PIECE = 64 << 20, 1 << 20
 PULLING, LOCKED = 8, 40
 # What 64 MiB of messages or replies that wait may add to the memory, in KiB: buffers grow by doubling.
 MEMORY = 147_456
+# How many batches a client asks for that reads them late: about 12 MiB.
+LATER = 40
 # How long a client may take nothing of a reply, and how long a part more its end may come, in seconds.
 GRACE, LATE = 30, 4
 
@@ -391,7 +393,11 @@ def ask_unread(server, held, requests, count):
 
 
 def check_slow_replies(server, _):
-    """Locks beside clients that ask for lists and batches and do not read them."""
+    """Locks beside clients that ask for lists and batches and do not read them. Then some read all that they asked for.
+
+    Those ask for more than the system keeps of a connection, so that the rest waits in the server. They have the usual
+    buffers: with one of 4 KiB the system itself takes half a minute for each MiB, whatever server has sent it.
+    """
     with server.client() as client:
         for number in range(100):
             require(client.ask(lock(f"shot/{number:04d}"))[0] == 201, "a lock was not made")
@@ -400,11 +406,16 @@ def check_slow_replies(server, _):
     want = [server.ask(kind) for kind in kinds]
     require(all(status == 200 for status, _ in want), f"a list or a batch was refused: {want[0][:1]}, {want[1][:1]}")
     with contextlib.ExitStack() as held:
+        readers = [held.enter_context(server.client()) for _ in range(4)]
+        for client in readers:
+            client.send(kinds[1] * LATER)
         ask_unread(server, held, [kind * 4 for kind in kinds], 200)
         # What has arrived before a lock is answered before it, which is a second of work. Nobody waits 30 seconds for a
         # client that does not read.
         result = slowest_lock(server, 5, "200 clients that do not read lists and batches")
-    return result
+        for client in readers:
+            expect_replies(client, want[1], LATER)
+    return f"{result}; then 4 had {LATER} replies each, {4 * LATER * len(want[1][1]) >> 20} MiB"
 
 
 def check_many_replies(server, _):

@@ -257,7 +257,7 @@ impl Client {
         Ok(())
     }
 
-    /// Notes that so many bytes of a reply were sent now.
+    /// Notes that this many bytes of a reply were sent now.
     fn note_sent(&mut self, count: usize, now: Instant) {
         if count > 0 {
             self.course = self.course.advanced(count);

@@ -387,7 +387,7 @@ fn a_client_that_does_nothing_more_is_closed(rt: HostRuntime) {
     }
 }
 
-/// Reads so many bytes, and answers who is ready after each read. Returns the bytes and the letters of the messages.
+/// Reads this many bytes, and answers who is ready after each read. Returns the bytes and the letters of the messages.
 fn read_beside(
     rt: &impl Tester,
     host: &HostRuntime,

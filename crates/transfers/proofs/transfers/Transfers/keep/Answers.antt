@@ -1,4 +1,4 @@
-use Rattle.std.proofs.Common.{◌≡◌, ◌≢◌, List, All, subst}
+use Rattle.std.proofs.Common.{◌≢◌, List, All, subst}
 use Rattle.transfers.specs.declared.transfers.Transfer.{Transfer}
 use Rattle.transfers.proofs.Owing.{kept_or_not, none_owed}
 use Rattle.transfers.proofs.transfers.Transfers.keep.Goals as goal
