@@ -29,10 +29,6 @@ all_more : (pieces : List Piece) (piece : Piece) → AllByRecursion IsPiece piec
 all_more [] piece all one = (one, tt)
 all_more (first ∷ pieces) piece all one = (all.0, all_more pieces piece all.1 one)
 
--- no piece
-pub none_printed : (left was : Option (List ℕ)) (destination : Destination) → ArePrinted left left destination was was []
-none_printed left was destination = record { range = tt; read = Consumes-nil left; printed = Appends-nil was }
-
 -- one more piece
 pub more_printed : (left mid rest was so_far is : Option (List ℕ)) (destination : Destination) (pieces : List Piece) (piece : Piece) → ArePrinted left mid destination was so_far pieces
     → IsPiece piece → Consumes mid rest (piece_bytes piece) → Appends so_far is (shown_piece destination piece) → ArePrinted left rest destination was is (pieces ++ piece ∷ [])
@@ -45,10 +41,6 @@ more_printed left mid rest was so_far is destination pieces piece p one read pri
 module _ (before : List ℕ) (start left mid rest was so_far : Option (List ℕ)) (destination : Destination) (pieces : List Piece) (begins : Consumes start left before) (p : ArePrinted left mid destination was so_far pieces) where
   has_printed : (status : Status) → Consumes mid rest (status_code status ∷ []) → HasPrinted before start rest destination was so_far status
   has_printed status end = (pieces, p.range, Consumes-trans start mid rest _ _ (Consumes-trans start left mid _ _ begins p.read) end, p.printed)
-
-  -- the end of a reply
-  pub end_printed : (status : Status) → Consumes mid rest (status_code status ∷ []) → IsRestPrinted before start rest destination was so_far (ending status)
-  end_printed status end = inl (status, refl, has_printed status end)
 
   -- a frame that was not read, or not printed
   pub frame_failed : (is : Option (List ℕ)) (fault : Fault) → (IsUnread fault × (is ≡ so_far)) ⊎ (fault ≡ Output) → IsRestPrinted before start rest destination was is (Err fault)
@@ -87,11 +79,6 @@ module _ (before : List ℕ) (start mid rest was so_far is : Option (List ℕ)) 
   first_printed ended (inr (inl (fault, same, unread, inr (pieces, until, range, reads, printed)))) =
       inr (inl (fault, same, unread, inr (piece ∷ pieces, until, (one, range), subst (Consumes start until) (with_first pieces) reads, first_piece_shown pieces printed)))
   first_printed ended (inr (inr same)) = inr (inr same)
-
--- nothing was read of a reply
-pub unread_printed : (left rest was : Option (List ℕ)) (destination : Destination) (fault : Fault) → IsUnread fault ⊎ ((fault ≡ Version) × HasOtherVersion left rest) → IsReplyPrinted left rest destination was was (Err fault)
-unread_printed left rest was destination fault (inl unread) = inr (inr (inl (fault, refl, unread, inl refl)))
-unread_printed left rest was destination fault (inr (e, other)) = inl (rw e refl, other, refl)
 
 module _ (connects : (taken left : Option (List ℕ)) → Type 0) (command : OperatorCommand) (input unread : Option (List ℕ)) (request : List ℕ) (taken left sent rest was is : Option (List ℕ)) (destination : Destination) (connected : connects taken left) (asked : IsRequestFor command input unread request) where
   -- a server was asked, and its reply printed

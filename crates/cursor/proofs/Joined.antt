@@ -210,15 +210,6 @@ one_window_more repo limit found kept new rows wanted before next after start cu
     rw (then, same, more) (full_or_more repo limit (found ++ kept) wanted next cursor
     (joined_on repo limit found kept wanted start next cursor (subst (λ (o : Option ℕ). HasPage repo limit found wanted o cursor) is so_far) e))
 
-nothing_more : {A : Type 0} (xs : List A) → xs ++ [] ≡ xs
-nothing_more [] = refl
-nothing_more (x ∷ xs) = ap (λ l. x ∷ l) (nothing_more xs)
-
--- at the end the page is that of the locks that are found
-pub page_found : (repo : List ℕ) (limit : ℕ) (found : List LockRow) (wanted : List Lock) (cursor : ℕ) → HasPage repo limit found wanted None cursor
-    → cut limit (map (lock_seen repo) found) ≡ cut limit (left wanted (Some cursor))
-page_found repo limit found wanted cursor e = ap (cut limit) (sym (nothing_more (map (lock_seen repo) found))) ∙ e
-
 map_take : {A B : Type 0} (f : A → B) (n : ℕ) (xs : List A) → map f (take n xs) ≡ take n (map f xs)
 map_take f zero xs = refl
 map_take f (suc n) [] = refl

@@ -4,4 +4,3 @@ pub mod Ending
 pub mod Parted
 pub mod Walked
 pub mod Read
-pub mod Seen

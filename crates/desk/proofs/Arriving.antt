@@ -1,5 +1,5 @@
 -- An upload, from the bytes that arrive to the answer.
-use Rattle.desk.proofs.Prelude.{◌≡◌, ◌∙◌, ◌+◌, ◌≤◌, ℕ, Bool, true, false, List, [], ◌++◌, length, replicate, Option, Some, None, is_some, Result, Ok, Err, bytes_eq, refl, sym, ap, subst, arith, take, append-nil, append_assoc, length-append, length-take, IsTrue, nil_from_length, length-replicate, Ghosts, X2, World, Object, name_of, object_named, with_object, Answer, stores, by_rule, store_refusal, content_verdict, Ending, changed, unchanged, failed, answer_ending, StoreFault, Holds, From, Keeps, Ends, leads_none, keeps_still, keeps_then, keeps_ends, ends_then, ends_reported, Receipt, Differs, ReceiveFault, HasRead, object_from, Takes, HasAll, Fills, Carries, Settles, Receives, ReceivesStaged}
+use Rattle.desk.proofs.Prelude.{◌≡◌, ◌∙◌, ◌+◌, ◌≤◌, ℕ, Bool, true, false, List, [], ◌++◌, length, replicate, Option, Some, None, is_some, Result, Ok, Err, bytes_eq, refl, sym, ap, subst, arith, take, append-nil, append_assoc, length-append, length-take, IsTrue, nil_from_length, length-replicate, Ghosts, X2, World, Object, name_of, object_named, with_object, Answer, stores, by_rule, store_refusal, content_verdict, Ending, changed, unchanged, failed, answer_ending, StoreFault, Holds, From, Keeps, Ends, leads_none, keeps_still, keeps_then, keeps_ends, ends_then, ends_reported, Receipt, Differs, ReceiveFault, HasRead, object_from, Takes, HasAll, Fills, Carries, Settles, Receives, ReceivesStaged, repo_text, Refused}
 use Rattle.std.proofs.lemmas.Bool.{true≢false}
 use Rattle.std.proofs.lemmas.Slice.Eq.{bytes_eq-Decides}
 use Rattle.names.specs.declared.bodies.Body.{Ghosts as BodyGhosts}
@@ -19,8 +19,10 @@ use Rattle.uploads.specs.declared.completing.Kept.{Kept}
 use Rattle.uploads.specs.declared.completing.Kept.TheVariants.{New, Already}
 use Rattle.uploads.specs.declared.completing.UploadFault.{UploadFault}
 use Rattle.uploads.specs.declared.completing.UploadFault.TheVariants as upload_fault
+use Rattle.desk.specs.Receiving.{IsReceiving}
 use Rattle.desk.specs.declared.receiving.Receipt.TheVariants.{Stored}
 use Rattle.desk.specs.declared.receiving.ReceiveFault.TheVariants as fault
+use Rattle.desk.specs.declared.slices.Receiving.{Receiving}
 
 -- ---- the content
 
@@ -207,11 +209,60 @@ module _ {S : Type 0} (g : Ghosts S) where
             (keeps_then g a b c world it.0 (kept.each clean world it.0.holds repo name size (bytes ++ xs) it.1), tt);
       }
 
+  -- ---- from the upload to the answer
+
+  -- whatever the fault is, the world is kept
+  pub received_none : (old new : S) (world : World) (repo name bytes : List ℕ) (left : ℕ) (e : ReceiveFault) → Keeps g old new world → Receives g old new world repo name bytes left (Err e)
+  received_none old new world repo name bytes left (fault.Store f) keeps = (λ rest is. kept_refused old new world (content_verdict (object_from repo name (bytes ++ rest))) keeps, λ some. keeps)
+  received_none old new world repo name bytes left (fault.Body f) keeps = keeps
+
+  -- the fault is reported as one of the store
+  pub as_refused : (old new : S) (world : World) (repo name bytes : List ℕ) (left : ℕ) (e : ReceiveFault) → Receives g old new world repo name bytes left (Err e) → Receives g old new world repo name bytes left (Err (fault.Store Refused))
+  as_refused old new world repo name bytes left (fault.Store f) done = done
+  as_refused old new world repo name bytes left (fault.Body f) keeps = received_none old new world repo name bytes left (fault.Store Refused) keeps
+
+  -- no content is left
+  received_all : (old new : S) (world : World) (repo name bytes : List ℕ) (left : ℕ) (r : Result Receipt StoreFault) → left ≡ 0 → Carries g old new world (object_from repo name bytes) r
+      → Receives g old new world repo name bytes left (answered_by r)
+  received_all old new world repo name bytes left (Ok receipt) none done = done
+  received_all old new world repo name bytes left (Err f) none done = (
+    λ rest is. subst (λ (all : List ℕ). Carries g old new world (object_from repo name all) (Err f)) (sym (ap (λ (more : List ℕ). bytes ++ more) (nil_from_length rest (is ∙ none)) ∙ append-nil bytes)) done,
+    λ some. absurd (omega (arith, none, some)),
+  )
+
   -- ---- all of the upload
+
+  module _ (i : Intake) (id : UploadId) (arrival : Arrival)
+      (named : (bytes : List ℕ) → HasCounted i.hasher i.taken bytes → (arrival.name ≡ name_of bytes) × (arrival.size ≡ length bytes))
+      (whole : (pieces : List (List ℕ)) (bytes : List ℕ) → IsCut i.written i.last.items pieces bytes → IsWhole pieces arrival.last bytes) where
+    -- the bytes that the intake took arrived
+    all_taken : (s : S) (repo name : List ℕ) (size : ℕ) (bytes : List ℕ) → i.upload ≡ id → HasTaken g s i repo name size bytes → HasAll g s id arrival repo name size bytes
+    all_taken s repo name size bytes same had =
+        let cuts = had.cuts in
+        let says = named bytes had.counted in
+        record {
+          arrived = record {
+            pieces = cuts.pieces;
+            whole = whole cuts.pieces bytes cuts.cut;
+            staged = subst (λ (u : UploadId). Stages g s (upload_number u) repo name size cuts.pieces) same cuts.staged;
+          };
+          named = says.0;
+          counted = says.1;
+        }
+
+    -- they are all of the upload, which was answered
+    pub ended : (a b : S) (r : Result Receipt StoreFault) → From g a b (Settles g a b id arrival r)
+        → From g a b (λ world. (repo name bytes : List ℕ) → IsTrue (is_repo repo) → i.upload ≡ id → HasTaken g a i repo name (length bytes) bytes → Receives g a b world repo name bytes 0 (answered_by r))
+    ended a b r settled = record {
+      honest = settled.honest;
+      each = λ clean world h repo name bytes is same had.
+          let all = all_taken a repo name (length bytes) bytes same had in
+          received_all a b world repo name bytes 0 r refl (settled.each clean world h repo name bytes is (subst (λ (n : ℕ). HasAll g a id arrival repo name n bytes) (sym all.counted) all));
+    }
 
   module _ (a : S) (i : Intake) (id : UploadId) (size : ℕ) (same : i.upload ≡ id) (limit : i.size ≡ size) (empty : IsCut i.written i.last.items [] [] × HasCounted i.hasher i.taken []) where
     -- an intake that begins has taken no byte
-    taken_none : (repo name : List ℕ) → Stages g a (upload_number id) repo name size [] → HasTaken g a i repo name size []
+    pub taken_none : (repo name : List ℕ) → Stages g a (upload_number id) repo name size [] → HasTaken g a i repo name size []
     taken_none repo name stages = record {
       limit = limit;
       within = omega arith;
@@ -237,36 +288,8 @@ module _ {S : Type 0} (g : Ghosts S) where
       honest = so_far.honest;
       each = λ clean world h repo name stages.
           let it = so_far.each clean world h repo name size [] (taken_none repo name stages) in
-          let cuts = it.1.cuts in
-          let says = named bytes it.1.counted in (
-            it.0,
-            record {
-              arrived = record {
-                pieces = cuts.pieces;
-                whole = whole cuts.pieces bytes cuts.cut;
-                staged = subst (λ (u : UploadId). Stages g b (upload_number u) repo name size cuts.pieces) (upload ∙ same) cuts.staged;
-              };
-              named = says.0;
-              counted = says.1;
-            },
-          );
+          (it.0, all_taken j id arrival named whole b repo name size bytes (upload ∙ same) it.1);
     }
-
-  -- ---- from the upload to the answer
-
-  -- whatever the fault is, the world is kept
-  pub received_none : (old new : S) (world : World) (repo name bytes : List ℕ) (left : ℕ) (e : ReceiveFault) → Keeps g old new world → Receives g old new world repo name bytes left (Err e)
-  received_none old new world repo name bytes left (fault.Store f) keeps = (λ rest is. kept_refused old new world (content_verdict (object_from repo name (bytes ++ rest))) keeps, λ some. keeps)
-  received_none old new world repo name bytes left (fault.Body f) keeps = keeps
-
-  -- no content is left
-  received_all : (old new : S) (world : World) (repo name bytes : List ℕ) (left : ℕ) (r : Result Receipt StoreFault) → left ≡ 0 → Carries g old new world (object_from repo name bytes) r
-      → Receives g old new world repo name bytes left (answered_by r)
-  received_all old new world repo name bytes left (Ok receipt) none done = done
-  received_all old new world repo name bytes left (Err f) none done = (
-    λ rest is. subst (λ (all : List ℕ). Carries g old new world (object_from repo name all) (Err f)) (sym (ap (λ (more : List ℕ). bytes ++ more) (nil_from_length rest (is ∙ none)) ∙ append-nil bytes)) done,
-    λ some. absurd (omega (arith, none, some)),
-  )
 
   module _ (a : S) (id : UploadId) (size : ℕ) where
     -- a fault ended the content
@@ -342,4 +365,15 @@ module _ {S : Type 0} (g : Ghosts S) where
         let it = begun.each (came.honest (cleared.honest clean)) world h in
         let done = came.each (cleared.honest clean) world it.0.holds repo name is (sym whole) it.1 in
         then_cleared repo name bytes left world a c d r (received_then repo name bytes left world a b c r it.0 done) (cleared.each clean);
+  }
+
+  -- all of an upload arrived and was answered, and what it left was removed or not
+  pub completed_all : (a b c : S) (r : Receiving) (done : Result Receipt ReceiveFault)
+      → From g a b (λ world. (repo name bytes : List ℕ) → IsTrue (is_repo repo) → r.intake.upload ≡ r.upload → HasTaken g a r.intake repo name (length bytes) bytes → Receives g a b world repo name bytes 0 done)
+      → From g b c (Keeps g b c) → From g a c (λ world. (bytes : List ℕ) → IsReceiving g a r bytes → r.left ≡ 0 → Receives g a c world (repo_text r.repo) r.name bytes 0 done)
+  completed_all a b c r done ended cleared = record {
+    honest = λ clean. ended.honest (cleared.honest clean);
+    each = λ clean world h bytes it none.
+        let had = subst (λ (n : ℕ). HasTaken g a r.intake (repo_text r.repo) r.name n bytes) (sym (all_read (length bytes) r.left r.size it.left none)) it.taken in
+        then_cleared (repo_text r.repo) r.name bytes 0 world a b c done (ended.each (cleared.honest clean) world h (repo_text r.repo) r.name bytes r.repo.in_range it.upload had) (cleared.each clean);
   }

@@ -1,5 +1,5 @@
 -- A reply before the content of an upload is read, after calls that only read, and to a request without content.
-use Rattle.desk.proofs.Prelude.{◌≡◌, ◌∙◌, ◌<◌, ℕ, Bool, true, false, not, MatchBool, List, [], ◌∷◌, ◌++◌, Some, Result, Ok, Err, is_err, refl, sym, ap, subst, Ghosts, World, Answer, Denial, Plan, receives, store_refusal, answer_ending, failed, From, Leads, Keeps, KeepsTables, Reads, ends_still, keeps_still, leaves_kept, leaves_then, reads_lead, still_then, left_by, Reply, IsReplyOf, ShowsIf, given_in, is_refused, IsAnsweredAs, AnswersBy, AnswersIf, AnswersRequest, BodyFault, given_with, verdict_by, uploads, request_asked}
+use Rattle.desk.proofs.Prelude.{◌≡◌, ◌∙◌, ◌<◌, ℕ, Bool, true, false, not, MatchBool, List, [], ◌∷◌, ◌++◌, Some, Result, Ok, Err, is_err, refl, sym, ap, subst, Ghosts, World, Answer, Denial, Plan, receives, store_refusal, answer_ending, failed, From, Leads, Keeps, KeepsTables, Reads, ends_still, keeps_still, leaves_kept, leaves_then, reads_lead, still_then, left_by, Reply, IsReplyOf, ShowsIf, given_in, is_refused, IsAnsweredAs, AnswersBy, AnswersIf, AnswersRequest, BodyFault, given_with, verdict_by, uploads, request_asked, NotGranted, denial_view}
 use Rattle.std.specs.Result.{IfErr, IfOk}
 use Rattle.std.proofs.lemmas.Bool.{true≢false}
 use Rattle.names.specs.declared.bodies.Body.{Ghosts as BodyGhosts}
@@ -7,37 +7,45 @@ use Rattle.forms.specs.declared.objects.PutRequest.{PutRequest}
 use Rattle.forms.specs.declared.request.Request as code
 use Rattle.forms.specs.declared.request.Request.TheVariants as form
 use Rattle.model.specs.Steps.{after}
+use Rattle.desk.specs.Objects.{DeniesIf}
+use Rattle.desk.specs.Receiving.{RefusesUpload}
+use Rattle.desk.specs.declared.outcomes.NotGranted.TheVariants as not_granted
 use Rattle.desk.proofs.Arriving.{read_none}
 use Rattle.desk.proofs.Told.{refused_is, told_refusal, told_denial}
 use Rattle.desk.proofs.Unchanged.{Replies}
 
 module _ {S : Type 0} (g : Ghosts S) (is_upload : Bool) (world : World) (repo : List ℕ) (plan : Result Plan Denial) where
-  module _ (old new : S) (lead : Leads g old new world (λ bound. bound)) (same : KeepsTables g old new) (left : ℕ) where
-    early : (reply : Reply) → ((more : List ℕ) → AnswersBy g old new world (verdict_by world repo plan more) reply)
+  module _ (old new : S) (lead : Leads g old new world (λ bound. bound)) (same : KeepsTables g old new) (bytes : List ℕ) (left : ℕ) where
+    early : (reply : Reply) → ((more : List ℕ) → AnswersBy g old new world (verdict_by world repo plan (bytes ++ more)) reply)
         → (is_upload ≡ true → is_refused reply ≡ false → MatchBool reply.body_read ((name : List ℕ) × (plan ≡ Ok (receives name)) × (left ≡ 0)) (is_err plan ≡ true))
-        → IsAnsweredAs g is_upload old new world repo plan [] left (Ok reply)
+        → IsAnsweredAs g is_upload old new world repo plan bytes left (Ok reply)
     early reply answers in_time = record {
       answers = λ more is. answers more;
       in_time = in_time;
       kept = λ put refused some. keeps_still g old new world lead;
-      tables = λ more denied. leaves_kept g old new (answer_ending world (Some (given_in (verdict_by world repo plan more) reply))) same;
+      tables = λ more denied. leaves_kept g old new (answer_ending world (Some (given_in (verdict_by world repo plan (bytes ++ more)) reply))) same;
     }
 
     -- the store refused, or memory ran out, before anything was tried
-    pub failed_early : (reply : Reply) → IsReplyOf reply store_refusal → IsAnsweredAs g is_upload old new world repo plan [] left (Ok reply)
+    pub failed_early : (reply : Reply) → IsReplyOf reply store_refusal → IsAnsweredAs g is_upload old new world repo plan bytes left (Ok reply)
     failed_early reply shows =
-        early reply (λ more. told_refusal g old new world _ reply shows (ends_still g old new failed world (after world (Some (verdict_by world repo plan more))) refl lead))
+        early reply (λ more. told_refusal g old new world _ reply shows (ends_still g old new failed world (after world (Some (verdict_by world repo plan (bytes ++ more)))) refl lead))
         (λ put other. absurd (true≢false (sym (refused_is store_refusal reply shows) ∙ other)))
 
     -- the plan refuses
     pub denied_early : (denial : Denial) (reply : Reply) → plan ≡ Err denial → ShowsIf (Err denial) reply → reply.body_read ≡ not is_upload
-        → IsAnsweredAs g is_upload old new world repo plan [] left (Ok reply)
+        → IsAnsweredAs g is_upload old new world repo plan bytes left (Ok reply)
     denied_early denial reply is shows read =
-        early reply (λ more. told_denial g old new world _ denial reply (ap (λ p. verdict_by world repo p more) is) shows lead) (λ put other. unread reply.body_read (read ∙ ap not put))
+        early reply (λ more. told_denial g old new world _ denial reply (ap (λ p. verdict_by world repo p (bytes ++ more)) is) shows lead) (λ put other. unread reply.body_read (read ∙ ap not put))
       where
         unread : (v : Bool) → v ≡ false → MatchBool v ((name : List ℕ) × (plan ≡ Ok (receives name)) × (left ≡ 0)) (is_err plan ≡ true)
         unread false e = ap is_err is
         unread true e = absurd (true≢false e)
+
+    -- the same of an upload, or the store refused
+    pub refused_early : is_upload ≡ true → (refused : NotGranted) (reply : Reply) → DeniesIf refused plan → RefusesUpload refused reply → IsAnsweredAs g is_upload old new world repo plan bytes left (Ok reply)
+    refused_early put (not_granted.Denied denial) reply is shows = denied_early (denial_view denial) reply is shows.0 (shows.1 ∙ sym (ap not put))
+    refused_early put (not_granted.Store fault) reply is shows = failed_early reply shows.0
 
   module _ (old mid new : S) (lead : Leads g old mid world (λ bound. bound)) (same : KeepsTables g old mid) (bytes : List ℕ) (left : ℕ) where
     if_then : (verdict : Answer) (r : Result Reply BodyFault) → AnswersIf g mid new world verdict r → AnswersIf g old new world verdict r
@@ -85,7 +93,7 @@ module _ {S B W : Type 0} {g : Ghosts S} {b : BodyGhosts B} {is_upload : Bool} {
   failed_first reply reads shows read =
       first reply (λ none. read) (λ other stays put. true≢false (sym (refused_is store_refusal reply shows) ∙ other)) (record {
         honest = reads.same.was_honest;
-        each = λ honest world h who asks size sized. failed_early g is_upload world repo (plan world who size) old new (reads_lead g old new _ world reads h) reads.same (b.size content) reply shows;
+        each = λ honest world h who asks size sized. failed_early g is_upload world repo (plan world who size) old new (reads_lead g old new _ world reads h) reads.same [] (b.size content) reply shows;
       })
 
   -- the plan refuses
@@ -96,8 +104,15 @@ module _ {S B W : Type 0} {g : Ghosts S} {b : BodyGhosts B} {is_upload : Bool} {
       first reply (λ none. read ∙ ap not none) (λ other stays put. true≢false (sym stays ∙ read ∙ ap not put)) (record {
         honest = reads.same.was_honest;
         each = λ honest world h who asks size sized.
-            denied_early g is_upload world repo (plan world who size) old new (reads_lead g old new _ world reads h) reads.same (b.size content) denial reply (is world (reads.each honest world h) who asks size sized) shows read;
+            denied_early g is_upload world repo (plan world who size) old new (reads_lead g old new _ world reads h) reads.same [] (b.size content) denial reply (is world (reads.each honest world h) who asks size sized) shows read;
       })
+
+  -- the same of an upload, or the store refused
+  pub refused_first : {P : World → Type 0} (refused : NotGranted) (reply : Reply) → is_upload ≡ true → Reads g old new P
+      → ((world : World) → P world → (who : W) → IsAsking who → (size : ℕ) → (is_upload ≡ true → size ≡ b.size content) → DeniesIf refused (plan world who size))
+      → RefusesUpload refused reply → AnswersRequest g b is_upload repo IsAsking plan old new content content (Ok reply)
+  refused_first (not_granted.Denied denial) reply put reads is shows = denied_first (denial_view denial) reply reads is shows.0 (shows.1 ∙ sym (ap not put))
+  refused_first (not_granted.Store fault) reply put reads is shows = failed_first reply reads shows.0 shows.1
 
   -- the body was read before
   pub replied_before : (none : is_upload ≡ false) (reply : Reply) → reply.body_read ≡ true

@@ -16,4 +16,7 @@ pub mod Offering
 pub mod Puts
 pub mod Early
 pub mod Bounded
+pub mod Judging
+pub mod Staying
+pub mod Sliced
 pub mod Foreseen

@@ -41,10 +41,6 @@ judged_gone state asked o named sound gone =
     ap (λ (v : Bool). check (not v) B6 >>= λ there. actions_for state asked.operation (size_of o.oid state) named.size) (gone ∙ ap (λ name. is_gone name state) sound.1)
     ∙ judged_sound state asked o named.size sound.0
 
--- an object whose name or size is not valid
-pub judged_unsound : (state : RepoState) (asked : BatchForm) (o : BatchObject) (rule : Rule) → IsSound asked.hash_algo o (Err rule) → Err rule ≡ actions_on state asked o
-judged_unsound state asked o rule unsound = ap (λ (v : Result ℕ Rule). v >>= λ size. check_gone state o.oid >>= λ kept. actions_for state asked.operation (size_of o.oid state) size) (sym unsound)
-
 -- ---- all objects, one after the other
 
 -- with this room, these offers are the objects as they are judged

@@ -26,9 +26,6 @@ module _ (c : Case) (ref : List ℕ) where
       by_check None = refl
       by_check (Some stored) = refl
 
-  pub verify_denied : (asked : VerifyForm) (denial : Denial) → ref_or_default asked.ref c.repo ≡ ref → may ≡ Err denial → verify_verdict c asked ≡ Err denial
-  verify_denied asked denial named denied = rw (named, denied) refl
-
   -- the verdict on an upload before its bytes, if its name is retired
   pub put_gone : (left : ℕ) (asked : PutForm) → ref_or_default asked.ref c.repo ≡ ref → may ≡ Ok tt → is_gone asked.name c.state ≡ true → put_verdict c left asked ≡ Err (by_rule X4)
   put_gone left asked named allowed gone = rw (named, allowed, gone) refl
@@ -41,6 +38,3 @@ module _ (c : Case) (ref : List ℕ) where
   pub put_without : (left : ℕ) (asked : PutForm) → ref_or_default asked.ref c.repo ≡ ref → may ≡ Ok tt → is_gone asked.name c.state ≡ false → has_place left asked.name c.state ≡ false
       → put_verdict c left asked ≡ Err (by_rule X3)
   put_without left asked named allowed kept none = rw (named, allowed, kept, none) refl
-
-  pub put_denied : (left : ℕ) (asked : PutForm) (denial : Denial) → ref_or_default asked.ref c.repo ≡ ref → may ≡ Err denial → put_verdict c left asked ≡ Err denial
-  put_denied left asked denial named denied = rw (named, denied) refl

@@ -21,7 +21,7 @@ use Rattle.forms.specs.declared.objects.PutRequest.{PutRequest}
 use Rattle.forms.specs.declared.request.Request as asked
 use Rattle.forms.specs.declared.request.Request.TheVariants as given
 use Rattle.uploads.proofs.Sizes.{size_named}
-use Rattle.desk.specs.Objects.{Permits}
+use Rattle.desk.specs.Objects.{DeniesIf}
 use Rattle.desk.specs.declared.cases.Case.{Case}
 use Rattle.desk.specs.declared.cases.Denial as code
 use Rattle.desk.specs.declared.outcomes.NotGranted.TheVariants as not_granted
@@ -102,8 +102,8 @@ module _ (state : RepoState) (size : ℕ) (name : List ℕ) where
   place_found none = rw none refl
 
 -- a denial is not permitted
-pub permits_denial : (denial : code.Denial) (e : NotGranted) (plan : Plan) (planned : Result Plan Denial) → e ≡ not_granted.Denied denial → planned ≡ Err (denial_view denial) → Permits (Err e) plan planned
-permits_denial denial e plan planned is given = subst (λ x. Permits (Err x) plan planned) (sym is) given
+pub permits_denial : (denial : code.Denial) (e : NotGranted) (planned : Result Plan Denial) → e ≡ not_granted.Denied denial → planned ≡ Err (denial_view denial) → DeniesIf e planned
+permits_denial denial e planned is given = subst (λ x. DeniesIf x planned) (sym is) given
 
 -- ---- plans
 

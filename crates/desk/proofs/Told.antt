@@ -54,12 +54,6 @@ shows_refusal verdict reply shows = subst (IsReplyOf reply) (sym (given_refusal 
 pub still_shows : (given : Answer) (a b : Reply) (read : Bool) → b ≡ record a { body_read = read } → IsReplyOf a given → IsReplyOf b given
 still_shows given a b read is shows = subst (λ (r : Reply). IsReplyOf r given) (sym is) (record { status = shows.status; rule = shows.rule; body = shows.body })
 
-pub still_shows_if : (verdict : Answer) (a b : Reply) (read : Bool) → b ≡ record a { body_read = read } → ShowsIf verdict a → ShowsIf verdict b
-still_shows_if verdict a b read is shows = subst (λ (r : Reply). ShowsIf verdict r) (sym is) (record { status = shows.status; rule = shows.rule; body = shows.body })
-
-pub says_read : (a b : Reply) (read : Bool) → b ≡ record a { body_read = read } → b.body_read ≡ read
-says_read a b read is = ap (λ (r : Reply). r.body_read) is
-
 -- ---- what was done
 
 module _ {S : Type 0} (g : Ghosts S) (old new : S) (world : World) (verdict : Answer) where

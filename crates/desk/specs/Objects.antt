@@ -16,8 +16,12 @@ size_check found size = by_rules (ok_or found V1) >>= λ stored. by_rules (check
 abbrev pub has_place : (size : ℕ) (name : List ℕ) → RepoState → Bool
 has_place size name state = has_room size state || is_some (size_of name state)
 
+-- the request is denied so; or the store refused
+abbrev pub DeniesIf : NotGranted → Result Plan Denial → Type 0
+DeniesIf (not_granted.Denied denial) planned = planned ≡ Err (denial_view denial)
+DeniesIf (not_granted.Store fault) planned = ⊤
+
 -- the request is granted by this plan, or is denied so; or the store refused
 abbrev pub Permits : Result ⊤ NotGranted → Plan → Result Plan Denial → Type 0
 Permits (Ok may) plan planned = planned ≡ Ok plan
-Permits (Err (not_granted.Denied denial)) plan planned = planned ≡ Err (denial_view denial)
-Permits (Err (not_granted.Store fault)) plan planned = ⊤
+Permits (Err refused) plan planned = DeniesIf refused planned

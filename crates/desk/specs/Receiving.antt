@@ -1,11 +1,14 @@
 -- The bytes of an upload are received.
-use Rattle.std.specs.Prelude.{◌≡◌, ◌<◌, ◌+◌, ℕ, List, [], ◌++◌, length, Result, Ok, Err, OnOk, IfOk, IsTrue, ⊤}
+use Rattle.std.specs.Prelude.{◌≡◌, ◌<◌, ◌+◌, ℕ, true, false, List, [], ◌++◌, length, Result, Ok, Err, OnOk, IfOk, IsTrue, ⊤}
+use Rattle.std.specs.Borrow.{Bor}
 use Rattle.store.specs.declared.state.State.{Ghosts}
+use Rattle.names.specs.Names.{repo_text}
 use Rattle.names.specs.Texts.{is_repo}
 use Rattle.names.specs.declared.bodies.BodyFault.{BodyFault}
 use Rattle.names.specs.declared.rules.Rule.TheVariants.{X2}
+use Rattle.names.specs.declared.texts.RepoName.{RepoName}
 use Rattle.model.specs.World.{World, Object, name_of}
-use Rattle.model.specs.Answers.{Answer, stores, by_rule, store_refusal}
+use Rattle.model.specs.Answers.{Answer, Denial, Plan, receives, stores, by_rule, store_refusal}
 use Rattle.model.specs.Objects.{content_verdict}
 use Rattle.tables.specs.Staging.{upload_number}
 use Rattle.tables.specs.declared.fault.StoreFault.{StoreFault}
@@ -15,12 +18,22 @@ use Rattle.refinement.specs.Staging.{Stages}
 use Rattle.chunks.specs.Intakes.{HasTaken, HasArrived}
 use Rattle.chunks.specs.declared.intake.Intake.{Intake}
 use Rattle.chunks.specs.declared.intake.Arrival.{Arrival}
+use Rattle.tokens.specs.declared.callers.CallerFault.{CallerFault}
+use Rattle.tokens.specs.declared.callers.CallerFault.TheVariants as caller
+use Rattle.desk.specs.declared.admission.RepoRequest.{RepoRequest}
+use Rattle.desk.specs.declared.slices.Receiving.{Receiving}
+use Rattle.desk.specs.declared.cases.Denial.TheVariants as denied
+use Rattle.desk.specs.declared.outcomes.NotGranted.{NotGranted}
+use Rattle.desk.specs.declared.outcomes.NotGranted.TheVariants as not_granted
 use Rattle.desk.specs.declared.replies.Reply.{Reply}
 use Rattle.desk.specs.declared.receiving.Receipt.{Receipt}
 use Rattle.desk.specs.declared.receiving.Receipt.TheVariants.{Stored, Differs}
 use Rattle.desk.specs.declared.receiving.ReceiveFault.{ReceiveFault}
 use Rattle.desk.specs.declared.receiving.ReceiveFault.TheVariants as fault
+use Rattle.desk.specs.Asking.{is_upload_of}
+use Rattle.desk.specs.Objects.{DeniesIf}
 use Rattle.desk.specs.Replies.{IsReplyOf, ShowsIf}
+use Rattle.desk.specs.Rights.{denial_view}
 
 -- the object of bytes that arrived
 abbrev pub object_from : (repo name bytes : List ℕ) → Object
@@ -86,3 +99,35 @@ RepliesReceived (Ok Differs) (Ok reply) = ShowsIf (Err (by_rule X2)) reply
 RepliesReceived (Err (fault.Store f)) (Ok reply) = IsReplyOf reply store_refusal
 RepliesReceived (Err (fault.Body f)) (Err cut) = cut ≡ f
 RepliesReceived _ _ = ⊥
+
+-- ---- an upload that is judged by itself
+
+-- why a request without a caller is not granted
+abbrev pub uncalled : CallerFault → NotGranted
+uncalled (caller.Rule rule) = not_granted.Denied (denied.Rule rule)
+uncalled (caller.Store fault) = not_granted.Store fault
+
+-- the plan is to receive an object of this name in this repository, or it is this denial; or the store refused
+abbrev pub JudgesUpload : (repo : List ℕ) → Result Plan Denial → Result (Bor RepoName × Bor (List ℕ)) NotGranted → Type 0
+JudgesUpload repo plan (Ok (home, name)) = (repo_text home.now ≡ repo) × (plan ≡ Ok (receives name.now))
+JudgesUpload repo plan (Err refused) = DeniesIf refused plan
+
+-- the reply to an upload that is not granted: that to its denial, before its content is read, or the store refusal
+abbrev pub RefusesUpload : NotGranted → Reply → Type 0
+RefusesUpload (not_granted.Denied denial) reply = ShowsIf (Err (denial_view denial)) reply × (reply.body_read ≡ false)
+RefusesUpload (not_granted.Store fault) reply = IsReplyOf reply store_refusal × (reply.body_read ≡ true)
+
+-- ---- an upload that is received in slices
+
+module _ {S : Type 0} (g : Ghosts S) where
+  -- the upload is staged under its name and size in its repository, these bytes of it have arrived, and this number has not
+  pub record IsReceiving (s : S) (r : Receiving) (bytes : List ℕ) : Type 0 where
+    pub upload : r.intake.upload ≡ r.upload
+    pub taken : HasTaken g s r.intake (repo_text r.repo) r.name r.size bytes
+    pub left : length bytes + r.left ≡ r.size
+
+  -- all bytes of the upload have arrived, and they are these; and the request uploads an object
+  pub record HasReceived (s : S) (r : Receiving) (asked : RepoRequest) (bytes : List ℕ) : Type 0 where
+    pub receiving : IsReceiving s r bytes
+    pub all : r.left ≡ 0
+    pub uploads : is_upload_of asked ≡ true

@@ -3,15 +3,19 @@
 ghost use Rattle.std.specs.Prelude.{◌≡◌, true, Err};
 ghost use Rattle.desk.specs.declared.outcomes.NotGranted.TheVariants as not_granted;
 ghost use Rattle.tables.specs.declared.fault.StoreFault.TheVariants as store;
+ghost use Rattle.desk.specs.declared.cases.Denial.TheVariants.{Rule as by_rule};
 ghost use Rattle.desk.specs.Done.{RepliesOrDenies};
+ghost use Rattle.desk.specs.Receiving.{RefusesUpload, uncalled};
 ghost use Rattle.desk.specs.Replies.{ShowsIf};
 ghost use Rattle.desk.specs.Rights.{denial_view};
 
 use crate::cases::Denial;
 use crate::replies::Reply;
 use crate::rights::denial_reply;
+use names::Rule;
 use std::alloc::{AllocError, Global};
 use tables::StoreFault;
+use tokens::CallerFault;
 
 /// Why a request is not granted.
 #[derive(Clone, Copy, Debug, PartialEq, Eq)]
@@ -27,6 +31,25 @@ impl From<Denial> for NotGranted {
 
     fn from(denial: Denial) -> NotGranted {
         NotGranted::Denied(denial)
+    }
+}
+
+impl From<Rule> for NotGranted {
+    ghost from_gives = { λ rule result. result ≡ not_granted.Denied (by_rule rule) };
+
+    fn from(rule: Rule) -> NotGranted {
+        NotGranted::Denied(Denial::Rule(rule))
+    }
+}
+
+impl From<CallerFault> for NotGranted {
+    ghost from_gives = { λ fault result. result ≡ uncalled fault };
+
+    fn from(fault: CallerFault) -> NotGranted {
+        match fault {
+            CallerFault::Rule(rule) => NotGranted::Denied(Denial::Rule(rule)),
+            CallerFault::Store(fault) => NotGranted::Store(fault),
+        }
     }
 }
 
@@ -67,5 +90,16 @@ pub(crate) fn reply_or_denial(alloc: Global, done: Result<Reply, NotGranted>) ->
         Ok(reply) => reply.with_body_read(true),
         Err(NotGranted::Denied(denial)) => denied(alloc, denial),
         Err(NotGranted::Store(_)) => Reply::store_refused(),
+    }
+}
+
+/// The reply to an upload that is not granted, whose content is not read; the store refusal if the store refused or memory
+/// ran out.
+pub(crate) fn refused_upload(alloc: Global, refused: NotGranted) -> Reply
+    ensures { RefusesUpload refused result }
+{
+    match refused {
+        NotGranted::Denied(denial) => denied(alloc, denial).with_body_read(false),
+        NotGranted::Store(_) => Reply::store_refused(),
     }
 }

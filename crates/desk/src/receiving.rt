@@ -133,7 +133,7 @@ fn fill<S: Store, B: Body>(
 /// # Errors
 ///
 /// The errors of [`uploads::complete`], which leave the objects of the store unchanged.
-fn settle<S: Store>(
+pub(crate) fn settle<S: Store>(
     store: &mut S,
     upload: UploadId,
     arrival: &Arrival,
@@ -174,7 +174,7 @@ fn receive_staged<S: Store, B: Body>(
 /// Removes what arrived of an upload that has other bytes, if the store allows it. After a refusal of the store it removes
 /// whatever is staged: on a full disk, uploads that failed before may be staged too. An upload that is cut off stays
 /// staged. What is not removed here is removed by the next upload of its repository.
-fn clear<S: Store>(
+pub(crate) fn clear<S: Store>(
     alloc: Global,
     store: &mut S,
     upload: UploadId,

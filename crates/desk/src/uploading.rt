@@ -1,26 +1,29 @@
 //! The request to upload an object (Git LFS API, Basic Transfers, "Uploads").
 
-ghost use Rattle.std.specs.Prelude.{◌≡◌, pos, true, int_le, IfOk};
+ghost use Rattle.std.specs.Prelude.{◌≡◌, pos, true, int_le, Ok, IfOk};
 ghost use Rattle.model.specs.Callers as model;
 ghost use Rattle.model.specs.Answers.{receives};
 ghost use Rattle.model.specs.Objects.{put_verdict};
 ghost use Rattle.policy.specs.Values.{repo_view};
 ghost use Rattle.forms.specs.Requests.{put_asked};
+ghost use Rattle.refinement.specs.Left.{Reads};
+ghost use Rattle.desk.specs.Asking.{plan_seen};
 ghost use Rattle.desk.specs.Done.{AnswersRequest};
 ghost use Rattle.desk.specs.Objects.{Permits, has_place};
 ghost use Rattle.desk.specs.Reading.{ReadsRepo, case_with};
-ghost use Rattle.desk.specs.Receiving.{RepliesReceived};
+ghost use Rattle.desk.specs.Receiving.{JudgesUpload, RepliesReceived};
 ghost use Rattle.desk.specs.Rights.{IsUserOf, case_repo, case_seen};
 
+use crate::admission::{RepoRequest, admit};
 use crate::cases::{Case, Denial};
-use crate::outcomes::{NotGranted, denied};
+use crate::outcomes::{NotGranted, denied, refused_upload};
 use crate::readers::RepoReader;
 use crate::receiving::{Receipt, ReceiveFault, receive};
 use crate::replies::Reply;
 use crate::rights::{may_push, ref_or_default};
-use forms::PutRequest;
-use names::{Body, BodyFault, Oid, Rule};
-use policy::Repo;
+use forms::{PutRequest, Request};
+use names::{Body, BodyFault, Moment, Oid, RepoName, Rule};
+use policy::{Policy, Repo};
 use std::alloc::Global;
 use store::Store;
 use tables::StoreFault;
@@ -77,6 +80,50 @@ pub(crate) fn may_upload<R: RepoReader>(
     }
 }
 
+/// Judges a request to upload an object of this size, before its content is read, and returns the repository and the name.
+///
+/// # Errors
+///
+/// `Denied` for the first rule that refuses it, and `Store`, which is `Refused` for a request that uploads nothing. The
+/// store is only read.
+pub(crate) fn judge_upload<'a, S: Store>(
+    store: &mut S,
+    policy: &'a Policy,
+    now: Moment,
+    asked: &RepoRequest<'a>,
+    size: u64,
+) -> Result<(&'a RepoName, &'a Oid), NotGranted>
+    ensures { Reads S.State store.old store.new (λ world. JudgesUpload asked.entry.now.repo.now
+        (plan_seen world policy.entry.now now asked.entry.now size) result) }
+{
+    let caller = tokens::caller(store, asked.authorization, now)?;
+    let (repo, request) = admit(policy, &caller.repo, caller.operation, asked)?;
+    let Request::Put(put) = request else {
+        return Err(StoreFault::Refused.into());
+    };
+    let case = Case {
+        policy,
+        now,
+        repo,
+        user: &caller.user,
+        token: caller.token,
+        expires: caller.expires,
+    };
+    may_upload(store, &case, put, size)?;
+    Ok((repo.name(), &put.name))
+}
+
+/// The reply to an upload that was completed or not: 200, or X2.
+pub(crate) fn receipt_reply(alloc: Global, receipt: Receipt) -> Reply
+    ensures shows { RepliesReceived (Ok receipt) (Ok result) }
+    ensures read { result.body_read ≡ true }
+{
+    match receipt {
+        Receipt::Stored => Reply::confirmation(),
+        Receipt::Differs => denied(alloc, Denial::Rule(Rule::X2)),
+    }
+}
+
 /// The reply to an upload whose content was received: 200, or X2; the store refusal if the store refused or memory ran
 /// out.
 ///
@@ -91,8 +138,7 @@ fn received_reply(
     ensures read { IfOk result (λ reply. reply.body_read ≡ true) }
 {
     match received {
-        Ok(Receipt::Stored) => Ok(Reply::confirmation()),
-        Ok(Receipt::Differs) => Ok(denied(alloc, Denial::Rule(Rule::X2))),
+        Ok(receipt) => Ok(receipt_reply(alloc, receipt)),
         Err(ReceiveFault::Store(_)) => Ok(Reply::store_refused()),
         Err(ReceiveFault::Body(fault)) => Err(fault),
     }
@@ -120,7 +166,6 @@ pub(crate) fn put<S: Store, B: Body>(
             let received = receive(alloc, store, case.repo.name(), &asked.name, content);
             received_reply(alloc, received)
         }
-        Err(NotGranted::Denied(denial)) => Ok(denied(alloc, denial).with_body_read(false)),
-        Err(NotGranted::Store(_)) => Ok(Reply::store_refused()),
+        Err(refused) => Ok(refused_upload(alloc, refused)),
     }
 }

@@ -76,11 +76,7 @@ module _ {S : Type 0} (g : Ghosts S) where
 
   -- ---- an inspection
 
-  -- nothing was done
-  pub spares_none : (a : S) (was : Inspection) → From g a a (λ _. Spares g a a was was)
-  spares_none a was = record { honest = λ k. k; each = λ honest world h. record { reads = reads_none g a (λ _. ⊤) (λ _ _ _. tt); none = refl } }
-
-  -- and then calls that only read
+  -- then calls that only read
   pub spares_read : (a b c : S) (P : World → Type 0) (was mid is : Inspection) → From g a b (λ _. Spares g a b was mid) → Reads g b c P → is.damaged ≡ mid.damaged → From g a c (λ _. Spares g a c was is)
   spares_read a b c P was mid is p q same = record {
     honest = λ k. p.honest (q.same.was_honest k);

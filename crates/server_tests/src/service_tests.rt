@@ -6,3 +6,4 @@ mod foreseen;
 mod judging;
 mod large;
 mod reading;
+mod slices;

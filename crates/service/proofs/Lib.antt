@@ -10,3 +10,4 @@ pub mod Plans
 pub mod Responses
 pub mod Bodies
 pub mod Bounded
+pub mod Uploads

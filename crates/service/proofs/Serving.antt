@@ -49,17 +49,6 @@ no_text e none = ap (text_if e.asked) none
 grouped : (first read more : List ℕ) → first ++ (read ++ more) ≡ (first ++ read) ++ more
 grouped first read more = sym (append_assoc first read more)
 
--- bytes read in two parts
-pub consumes_both : (a b c : Option (List ℕ)) (first next : List ℕ) → Consumes a b first → Consumes b c next → Consumes a c (first ++ next)
-consumes_both None b c first next p q = tt
-consumes_both (Some xs) None c first next p q = absurd p
-consumes_both (Some xs) (Some ys) None first next p q = absurd q
-consumes_both (Some xs) (Some ys) (Some zs) first next p q = p ∙ ap (λ l. first ++ l) q ∙ grouped first next zs
-
-pub consumes_none : (a : Option (List ℕ)) → Consumes a a []
-consumes_none None = tt
-consumes_none (Some xs) = refl
-
 -- ---- ends without a reply
 
 ends_by : (s : Session) (rest : List ℕ) (old new : World) (e : End) → IsEarly e → IsProgress s rest old new → IsUnfinished rest → IsSession s (end_seen e) old new

@@ -6,3 +6,4 @@ pub mod Responding
 pub mod Turns
 pub mod Served
 pub mod Later
+pub mod Uploads

@@ -14,7 +14,10 @@ mod responding;
 mod sending;
 mod session;
 mod turn;
+mod underway;
+mod uploading;
 
+pub use desk::Terms;
 pub use downloads::Download;
 pub use ends::{Begun, End, Served};
 pub use judging::{Denied, Target, route_of};
@@ -24,3 +27,5 @@ pub use reading::{LONGEST_MESSAGE, Message, MessageFault, read_message};
 pub use routes::Routes;
 pub use sending::send_reply;
 pub use session::{begin, serve};
+pub use underway::Upload;
+pub use uploading::begin_upload;

@@ -124,7 +124,7 @@ fn leaves_body(form: Form, request: &Result<Request, Rule>, reply: &Reply) -> bo
 }
 
 /// The response with the desk's reply.
-fn response_with<'a>(
+pub(crate) fn response_with<'a>(
     asked: &Asked,
     request: &Result<Request, Rule>,
     repo: Option<&'a RepoName>,
@@ -144,7 +144,7 @@ fn response_with<'a>(
 }
 
 /// The repository's name, as the policy has it.
-fn named<'a>(policy: &'a Policy, repo: &str) -> Option<&'a RepoName>
+pub(crate) fn named<'a>(policy: &'a Policy, repo: &str) -> Option<&'a RepoName>
     ensures { option_map (λ name. repo_text name.now) result
         ≡ option_map (λ r. r.name) (repo_named repo.now (policy_view policy.entry.now)) }
 {

@@ -38,7 +38,11 @@ pub(crate) struct Setting<'a> {
 }
 
 /// Writes the response. Returns why the connection ends after it; `None` if it goes on.
-fn deliver<S: Store, K: Sink>(store: &mut S, sink: &mut K, response: &Response<'_>) -> Option<End>
+pub(crate) fn deliver<S: Store, K: Sink>(
+    store: &mut S,
+    sink: &mut K,
+    response: &Response<'_>,
+) -> Option<End>
     requires { length response.now.allow.now ≤ ALLOW_LIMIT }
     ensures sent { Reads S.State store.old store.new (λ world. (given : Answer)
         → IsReplyOf response.now.reply given → IsThere world response.now.repo given

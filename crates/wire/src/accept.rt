@@ -44,8 +44,7 @@ fn lists_accepted(value: &[u8]) -> bool
 }
 
 impl<'a> Head<'a> {
-    /// Whether the client accepts JSON of the Git LFS API: the `Accept` field lists it, or the head has
-    /// no `Accept`.
+    /// Whether the client accepts JSON of the Git LFS API: the `Accept` field lists it, or the head has no `Accept`.
     pub fn accepts_json(&self) -> bool
         ensures { (head : RequestHead) → Shows self.now head → result
             ≡ accepts (values (codes "accept") head) }

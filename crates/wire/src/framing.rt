@@ -1,5 +1,4 @@
-//! The size of the body after a head, and the heads that do not state it (RFC 9112, Message Body
-//! Length).
+//! The size of the body after a head, and the heads that do not state it (RFC 9112, Message Body Length).
 
 ghost use Rattle.std.specs.Prelude.{◌≡◌, ◌&&◌, ◌||◌, true, false, Ok, Err, MatchOption, MatchResult};
 ghost use Rattle.std.specs.List.{list_all};

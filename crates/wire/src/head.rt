@@ -25,9 +25,8 @@ impl<'a> Head<'a> {
     ghost use Rattle.wire.specs.Cut.{Covers};
     ghost use Rattle.wire.specs.Fields.{Shows, head_bytes, field_spans, is_closing_field};
 
-    /// Makes a `Head` from the result of [`first_head`](crate::first_head): `bytes` is
-    /// [`front_of`](crate::front_of) the stream, `fields` holds the spans that it wrote, and `spans` is
-    /// its result.
+    /// Makes a `Head` from the result of [`first_head`](crate::first_head): `bytes` is [`front_of`](crate::front_of)
+    /// the stream, `fields` holds the spans that it wrote, and `spans` is its result.
     pub fn new(bytes: &'a [u8], fields: &'a [HeaderSpan], spans: RequestSpans) -> Self
         ensures { (head : RequestHead) → Covers bytes.now fields.now spans head
             → Shows result head }
@@ -46,8 +45,7 @@ impl<'a> Head<'a> {
         bytes_of_span(self.bytes, self.spans.method)
     }
 
-    /// Returns the target: a path, and perhaps a query after a question mark. It is UTF-8, and not
-    /// decoded.
+    /// Returns the target: a path, and perhaps a query after a question mark. It is UTF-8, and not decoded.
     pub fn target(&self) -> &'a [u8]
         ensures { (head : RequestHead) → Shows self.now head → result.now ≡ head.target }
     {

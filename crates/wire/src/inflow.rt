@@ -52,9 +52,8 @@ impl<R: Source + Drop> Conn<R> {
     ///
     /// # Errors
     ///
-    /// The [`Stop`]. No byte is handed out, and those that were read wait. After [`Stop::End`] and
-    /// [`Stop::Rule`] each further call returns the same and reads nothing. After [`Stop::Device`] a
-    /// further call reads on.
+    /// The [`Stop`]. No byte is handed out, and those that were read wait. After [`Stop::End`] and [`Stop::Rule`] each
+    /// further call returns the same and reads nothing. After [`Stop::Device`] a further call reads on.
     pub fn next_head(&mut self) -> Result<Inflow<'_, R>, Stop>
         ensures* stopped { sem 𝓛 (conn_rests R.row R.Source self.entry result
             (λ last. IfErr result (λ stop. IsStopped self.old stop last))) }

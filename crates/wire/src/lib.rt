@@ -1,12 +1,10 @@
-//! The HTTP messages on a connection: splits requests from its bytes, and writes replies to it
-//! (RFC 9112).
+//! The HTTP messages on a connection: splits requests from its bytes, and writes replies to it (RFC 9112).
 //!
-//! A client sends its requests one after another. Each is a head, which is a few lines of text, and
-//! perhaps a body of bytes. A [`Conn`] reads them from a source: [`Conn::next_head`] returns an
-//! [`Inflow`] for each message, whose [`Head`] has the method, the target, the fields, and whether the
-//! connection ends after the message. The body is read through the `Inflow`, in pieces
-//! ([`Inflow::body_piece`]) or whole ([`Inflow::body_whole`]). [`write_reply`] sends a [`ReplyHead`] and
-//! a body.
+//! A client sends its requests one after another. Each is a head, which is a few lines of text, and perhaps a body of
+//! bytes. A [`Conn`] reads them from a source: [`Conn::next_head`] returns an [`Inflow`] for each message, whose
+//! [`Head`] has the method, the target, the fields, and whether the connection ends after the message. The body is read
+//! through the `Inflow`, in pieces ([`Inflow::body_piece`]) or whole ([`Inflow::body_whole`]). [`write_reply`] sends a
+//! [`ReplyHead`] and a body.
 //!
 //! Memory is allocated in two places: [`Conn::new`] takes the buffer of a connection once, and
 //! [`Inflow::body_whole`] takes the size of a body. This crate knows no routes. [`first_head`] finds the

@@ -57,8 +57,7 @@ pub(crate) fn read_head<S: Source>(
     }
 }
 
-/// Finds the head at the front of the buffer, and writes the spans of its fields to the front of
-/// `fields`.
+/// Finds the head at the front of the buffer, and writes the spans of its fields to the front of `fields`.
 fn cut_front(buffer: &Buffer, fields: &mut [HeaderSpan]) -> Cut
     requires room { FIELD_LIMIT ≤ length fields.old }
     ensures room { length fields.new ≡ length fields.old }

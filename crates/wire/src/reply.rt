@@ -1,7 +1,6 @@
 //! The head of a reply (RFC 9112, Message Format; Git LFS API, Authentication).
 //!
-//! It needs no memory: the head is written into a buffer of a fixed size, which holds the longest
-//! head.
+//! It needs no memory: the head is written into a buffer of a fixed size, which holds the longest head.
 
 ghost use Rattle.std.specs.Prelude.{◌≡◌, ◌+◌, ◌≤◌, ◌<◌, ◌++◌, ◌==◌, length, codes, decimal, not};
 ghost use Rattle.arrayvec.specs.ArrayString.{array_string_len};
@@ -31,8 +30,7 @@ pub enum Content {
 /// The head of a reply.
 #[derive(Clone, Copy, Debug, PartialEq, Eq)]
 pub struct ReplyHead<'a> {
-    /// The status. Its phrase is that of RFC 9110, or empty for a status that the server never
-    /// sends.
+    /// The status. Its phrase is that of RFC 9110, or empty for a status that the server never sends.
     pub status: StatusCode,
     /// The kind of the body.
     pub content: Content,
@@ -78,8 +76,7 @@ fn is_challenge(status: StatusCode) -> bool
     status.as_u16() == 401
 }
 
-/// The phrase of a status (RFC 9110, Status Codes; 507: RFC 4918). The crate `http` has older ones
-/// for 413 and 422.
+/// The phrase of a status (RFC 9110, Status Codes; 507: RFC 4918). The crate `http` has older ones for 413 and 422.
 fn phrase_of(status: StatusCode) -> &'static str
     ensures phrase { result.now ≡ phrase_in phrases status }
     ensures short { length result.now ≤ 32 }

@@ -12,15 +12,13 @@ use names::{ALLOW_LIMIT, Sink, WriteFault, write_whole};
 /// The longest reply that is written in one piece, in bytes: its head and its body.
 const SHORT_REPLY: usize = 4_096;
 
-/// Writes a reply: its head, and then its body. A reply of at most 4,096 bytes is offered to the sink as
-/// one piece.
+/// Writes a reply: its head, and then its body. A reply of at most 4,096 bytes is offered to the sink as one piece.
 ///
 /// The head states the size of the body; the caller has to make sure that it is correct.
 ///
 /// # Errors
 ///
-/// A [`WriteFault`] at the first write that fails, as for [`write_whole`]; head and body count as one
-/// text.
+/// A [`WriteFault`] at the first write that fails, as for [`write_whole`]; head and body count as one text.
 pub fn write_reply<K: Sink>(
     sink: &mut K,
     head: &ReplyHead<'_>,
@@ -37,8 +35,7 @@ pub fn write_reply<K: Sink>(
     write_both(sink, head.text().as_str().as_bytes(), body)
 }
 
-/// Writes all of one text, and then all of another: in one write, if they are short and the sink takes
-/// them whole.
+/// Writes all of one text, and then all of another: in one write, if they are short and the sink takes them whole.
 fn write_both<K: Sink>(sink: &mut K, front: &[u8], back: &[u8]) -> Result<(), WriteFault>
     ensures ok { OnOk result (Appends (K.taken sink.old) (K.taken sink.new) (front.now ++ back.now)) }
     ensures good { OnOk result (K.failed sink.new ≡ K.failed sink.old) }

@@ -15,7 +15,7 @@ returns-then-branch g c =
     record {
       reads = c.in_ok-is_gone.ensures.reads;
       each = λ honest state shown who user.
-          permits_denial (denied.Rule X4) c.into.result _ _ c.into.ensures
+          permits_denial (denied.Rule X4) c.into.result _ c.into.ensures
           (put_gone (case_with case who state) ref c.args.size asked named (pushes case who ref (Ok tt) user c.in_ok-may_push.ensures) (sym (c.in_ok-is_gone.ensures.gone honest state shown) ∙ c.if-branch.true));
     }
 
@@ -42,6 +42,6 @@ returns-else-branch-2 g c =
     sym (c.ref_or_default.ensures ∙ ap (λ (o : Option (List ℕ)). ref_or_default o (case_repo case)) (read_alike ref_text c.args.asked.now.ref_name c.as_ref.result c.as_ref.ensures.value)) in
     repo_weaker _
     (λ state both who user.
-    permits_denial (denied.Rule X3) c.into-else-branch-2.result _ _ c.into-else-branch-2.ensures
+    permits_denial (denied.Rule X3) c.into-else-branch-2.result _ c.into-else-branch-2.ensures
     (put_without (case_with case who state) ref c.args.size asked named (pushes case who ref (Ok tt) user c.in_ok-may_push.ensures) (sym both.0 ∙ c.if-branch.false) (sym both.1 ∙ c.if-branch-2.false)))
     (both_read it.reads_on it.was_honest it.shows_still _ c.in_ok-is_gone.ensures.reads c.in_ok-has_place.ensures.reads c.in_ok-is_gone.ensures.gone c.in_ok-has_place.ensures.each)
